@@ -1,0 +1,67 @@
+-- Laws of lists by their places.
+use mathlib.Core.Path.{_≡_, refl, sym, ap, _∙_}
+use mathlib.Core.List.{List, [], _∷_, _++_, map}
+use Prim.Native.Nat.{ℕ, zero, suc, _+_, _≤_, _<_}
+use native.Mathlib.Omega.{arith}
+use lib.ListN.{length, getD}
+use Rattle.lists.specs.Run.{run, build}
+
+module _ {A : Type 0} where
+  pub length-run : (f : ℕ → A) (k n : ℕ) → length (run f k n) ≡ n
+  unfolding run
+  length-run f k zero = refl
+  length-run f k (suc n) = ap suc (length-run f (suc k) n)
+
+  -- one more at the end
+  pub run-next : (f : ℕ → A) (k n : ℕ) → run f k (suc n) ≡ run f k n ++ (f (k + n) ∷ [])
+  unfolding run
+  run-next f k zero = let e : k + 0 ≡ k = omega arith in rw e
+  run-next f k (suc n) = let e : k + suc n ≡ suc k + n = omega arith in rw e (ap (λ (l : List A). f k ∷ l) (run-next f (suc k) n))
+
+  pub run-same : (f g : ℕ → A) (k n : ℕ) → ((i : ℕ) → k ≤ i → i < k + n → f i ≡ g i) → run f k n ≡ run g k n
+  unfolding run
+  run-same f g k zero h = refl
+  run-same f g k (suc n) h =
+      let a : f k ≡ g k = h k (omega arith) (omega arith) in
+      let b : run f (suc k) n ≡ run g (suc k) n = run-same f g (suc k) n (λ i p q. h i (omega arith) (omega arith)) in
+      cc
+
+  -- the same list from another place on
+  pub run-shift : (f : ℕ → A) (k n : ℕ) → run f (suc k) n ≡ run (λ i. f (suc i)) k n
+  unfolding run
+  run-shift f k zero = refl
+  run-shift f k (suc n) = ap (λ (l : List A). f (suc k) ∷ l) (run-shift f (suc k) n)
+
+  pub getD-run : (f : ℕ → A) (k n j : ℕ) (d : A) → j < n → getD (run f k n) j d ≡ f (k + j)
+  unfolding run
+  getD-run f k zero j d h = absurd (omega arith)
+  getD-run f k (suc n) zero d h = let e : k ≡ k + 0 = omega arith in ap f e
+  getD-run f k (suc n) (suc j) d h = let e : suc k + j ≡ k + suc j = omega arith in getD-run f (suc k) n j d (omega arith) ∙ ap f e
+
+  pub getD-run-out : (f : ℕ → A) (k n j : ℕ) (d : A) → n ≤ j → getD (run f k n) j d ≡ d
+  unfolding run
+  getD-run-out f k zero j d h = refl
+  getD-run-out f k (suc n) zero d h = absurd (omega arith)
+  getD-run-out f k (suc n) (suc j) d h = getD-run-out f (suc k) n j d (omega arith)
+
+  pub build-same : (n : ℕ) (f g : ℕ → A) → ((i : ℕ) → i < n → f i ≡ g i) → build n f ≡ build n g
+  build-same n f g h = run-same f g 0 n (λ i p q. h i (omega arith))
+
+  pub getD-build : (n : ℕ) (f : ℕ → A) (j : ℕ) (d : A) → j < n → getD (build n f) j d ≡ f j
+  getD-build n f j d h = let e : 0 + j ≡ j = omega arith in getD-run f 0 n j d h ∙ ap f e
+
+  -- a list is built from its elements
+  pub build-getD : (l : List A) (d : A) → build (length l) (λ i. getD l i d) ≡ l
+  unfolding run
+  build-getD [] d = refl
+  build-getD (x ∷ l) d = ap (λ (s : List A). x ∷ s) (run-shift (λ i. getD (x ∷ l) i d) 0 (length l) ∙ build-getD l d)
+
+pub map-run : {A B : Type 0} (g : A → B) (f : ℕ → A) (k n : ℕ) → map g (run f k n) ≡ run (λ i. g (f i)) k n
+unfolding run
+map-run g f k zero = refl
+map-run g f k (suc n) = ap (λ s. g (f k) ∷ s) (map-run g f (suc k) n)
+
+pub getD-map : {A B : Type 0} (g : A → B) (l : List A) (i : ℕ) (d : A) (e : B) → i < length l → getD (map g l) i e ≡ g (getD l i d)
+getD-map g [] i d e h = absurd (omega arith)
+getD-map g (x ∷ l) zero d e h = refl
+getD-map g (x ∷ l) (suc i) d e h = getD-map g l i d e (omega arith)
