@@ -31,12 +31,12 @@ module _ (at : ℕ → ℕ) (v : ℕ → ℕ → ℕ) (s : List ℕ) where
   stores-on (suc n) inj fit k h =
       ⊎-elim
       (λ q.
-        rw q
-        (getD-set-same (turns (storeAt at v) n s) (at n) (v n (getD (turns (storeAt at v) n s) (at n) 0)) 0 (rw (stores-length n) (fit n (omega arith)))
-            ∙ ap (v n) (stores-off n (at n) (λ j l e. let z : n ≡ j = inj n j (omega arith) (omega arith) e in omega arith))))
+      rw q
+      (getD-set-same (turns (storeAt at v) n s) (at n) (v n (getD (turns (storeAt at v) n s) (at n) 0)) 0 (rw (stores-length n) (fit n (omega arith)))
+      ∙ ap (v n) (stores-off n (at n) (λ j l e. let z : n ≡ j = inj n j (omega arith) (omega arith) e in omega arith))))
       (λ l.
-        getD-set-other (turns (storeAt at v) n s) (at n) (at k) (v n (getD (turns (storeAt at v) n s) (at n) 0)) 0 (λ e. let z : k ≡ n = inj k n h (omega arith) e in omega arith)
-            ∙ stores-on n (λ i j a b. inj i j (omega arith) (omega arith)) (λ i a. fit i (omega arith)) k l)
+      getD-set-other (turns (storeAt at v) n s) (at n) (at k) (v n (getD (turns (storeAt at v) n s) (at n) 0)) 0 (λ e. let z : k ≡ n = inj k n h (omega arith) e in omega arith)
+      ∙ stores-on n (λ i j a b. inj i j (omega arith) (omega arith)) (λ i a. fit i (omega arith)) k l)
       (eq-or-lt-of-le (le-of-suc-le-suc h))
 
 -- what a pass F over one line does: it keeps the length, leaves other places alone, and makes `val` of the line's own places
@@ -74,12 +74,12 @@ module _ (F : ℕ → List ℕ → List ℕ) (ix : ℕ → ℕ → ℕ) (n : ℕ
   lines-on (suc m) inj fit j k a b =
       ⊎-elim
       (λ q.
-        rw q
-        (law m .on (turns F m s) (λ i l x y e. inj m i m l (omega arith) x (omega arith) y e .1) (λ i x. rw (lines-length m) (fit m i (omega arith) x)) k b
-            ∙ law m .ext _ _ (λ i x. lines-off m (ix m i) (λ i' l y z e. let w = inj m i i' l (omega arith) x (omega arith) z e in omega (arith, w .0))) k b))
+      rw q
+      (law m .on (turns F m s) (λ i l x y e. inj m i m l (omega arith) x (omega arith) y e .1) (λ i x. rw (lines-length m) (fit m i (omega arith) x)) k b
+      ∙ law m .ext _ _ (λ i x. lines-off m (ix m i) (λ i' l y z e. let w = inj m i i' l (omega arith) x (omega arith) z e in omega (arith, w .0))) k b))
       (λ l.
-        law m .off (turns F m s) (ix j k) (λ i x e. let w = inj j k m i a b (omega arith) x e in omega (arith, w .0))
-            ∙ lines-on m (λ i x y z p q r. inj i x y z (omega arith) q (omega arith)) (λ i x p. fit i x (omega arith)) j k l b)
+      law m .off (turns F m s) (ix j k) (λ i x e. let w = inj j k m i a b (omega arith) x e in omega (arith, w .0))
+      ∙ lines-on m (λ i x y z p q r. inj i x y z (omega arith) q (omega arith)) (λ i x p. fit i x (omega arith)) j k l b)
       (eq-or-lt-of-le (le-of-suc-le-suc a))
 
   -- the same told of any place p, of which a test says whether it is on a line

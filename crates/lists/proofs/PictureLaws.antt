@@ -27,12 +27,12 @@ module _ (w h : ℕ) where
   pub picture-is : (G H : Picture) → ((x y : ℕ) → x < w → y < h → G x y ≡ H x y) → ((x y : ℕ) → (x < w → y < h → ⊥) → H x y ≡ 0) → within w h G ≡ H
   picture-is G H a o =
       fun-ext (λ x. fun-ext (λ y.
-        by-flag (ltb x w)
-        (λ e.
-          by-flag (ltb y h)
-          (λ f. within-in G x y (ltb-true x w e) (ltb-true y h f) ∙ a x y (ltb-true x w e) (ltb-true y h f))
-          (λ f. let n : x < w → y < h → ⊥ = λ p q. omega (arith, ltb-false y h f) in within-out G x y n ∙ sym (o x y n)))
-        (λ e. let n : x < w → y < h → ⊥ = λ p q. omega (arith, ltb-false x w e) in within-out G x y n ∙ sym (o x y n))))
+      by-flag (ltb x w)
+      (λ e.
+      by-flag (ltb y h)
+      (λ f. within-in G x y (ltb-true x w e) (ltb-true y h f) ∙ a x y (ltb-true x w e) (ltb-true y h f))
+      (λ f. let n : x < w → y < h → ⊥ = λ p q. omega (arith, ltb-false y h f) in within-out G x y n ∙ sym (o x y n)))
+      (λ e. let n : x < w → y < h → ⊥ = λ p q. omega (arith, ltb-false x w e) in within-out G x y n ∙ sym (o x y n))))
 
 -- a place of a picture of b rows lies in its list
 pub place-fits : (b w x y n : ℕ) → x < w → y < b → b * w ≤ n → y * w + x < n
@@ -45,14 +45,14 @@ pub euclid : (w x y u v : ℕ) → x < w → u < w → y * w + x ≡ v * w + u �
 euclid w x y u v h k e =
     by-flag (ltb y v)
     (λ f.
-      let m : suc y * w ≤ v * w = mul-le-mul-right w (ltb-true y v f) in
-      absurd (omega (arith, suc-mul y w)))
+    let m : suc y * w ≤ v * w = mul-le-mul-right w (ltb-true y v f) in
+    absurd (omega (arith, suc-mul y w)))
     (λ f.
-      by-flag (ltb v y)
-      (λ g.
-        let m : suc v * w ≤ y * w = mul-le-mul-right w (ltb-true v y g) in
-        absurd (omega (arith, suc-mul v w)))
-      (λ g.
-        let q : y ≡ v = omega (arith, ltb-false y v f, ltb-false v y g) in
-        let r : y * w ≡ v * w = ap (λ (n : ℕ). n * w) q in
-        (q, omega arith)))
+    by-flag (ltb v y)
+    (λ g.
+    let m : suc v * w ≤ y * w = mul-le-mul-right w (ltb-true v y g) in
+    absurd (omega (arith, suc-mul v w)))
+    (λ g.
+    let q : y ≡ v = omega (arith, ltb-false y v f, ltb-false v y g) in
+    let r : y * w ≡ v * w = ap (λ (n : ℕ). n * w) q in
+    (q, omega arith)))

@@ -64,9 +64,16 @@ module _ (l t r b w : ℕ) (s : List ℕ) (width : r ≤ w) (fits : b * w ≤ le
       (λ j k p q. omega (arith, inside j k p q))
       (y * w + x) (y - t) (x - l) (λ k. pic w s (l + k) y) (inRect l t r b x y)
       (λ f.
-        let g = rect-in l t r b x y f in
-        (omega (arith, g), (omega (arith, g), (omega (arith, found x y (g .0) (g .1 .1 .0)),
-          (λ i a. ap (λ (n : ℕ). getD s n 0) (omega (arith, found (l + i) y (omega arith) (g .1 .1 .0))))))))
+      let g = rect-in l t r b x y f in (
+        omega (arith, g),
+        (
+          omega (arith, g),
+          (
+            omega (arith, found x y (g .0) (g .1 .1 .0)),
+            (λ i a. ap (λ (n : ℕ). getD s n 0) (omega (arith, found (l + i) y (omega arith) (g .1 .1 .0)))),
+          ),
+        ),
+      ))
       (λ f j k p q e. outside x y h f j k p q (omega arith))
 
   pub by-columns : (F : ℕ → List ℕ → List ℕ) (val : ℕ → (ℕ → ℕ) → ℕ → ℕ)
@@ -79,9 +86,16 @@ module _ (l t r b w : ℕ) (s : List ℕ) (width : r ≤ w) (fits : b * w ≤ le
       (λ j k p q. omega (arith, inside k j q p))
       (y * w + x) (x - l) (y - t) (λ k. pic w s x (t + k)) (inRect l t r b x y)
       (λ f.
-        let g = rect-in l t r b x y f in
-        (omega (arith, g), (omega (arith, g), (omega (arith, found x y (g .0) (g .1 .1 .0)),
-          (λ i a. ap (λ (n : ℕ). getD s n 0) (omega (arith, found x (t + i) (g .0) (omega arith))))))))
+      let g = rect-in l t r b x y f in (
+        omega (arith, g),
+        (
+          omega (arith, g),
+          (
+            omega (arith, found x y (g .0) (g .1 .1 .0)),
+            (λ i a. ap (λ (n : ℕ). getD s n 0) (omega (arith, found x (t + i) (g .0) (omega arith)))),
+          ),
+        ),
+      ))
       (λ f j k p q e. outside x y h f k j q p (omega arith))
 
   pub corner-fits : l < r → t < b → t * w + l < length s

@@ -36,7 +36,7 @@ module _ {A B : Type 0} (g : A → B) (d : A) (P : List (List A)) where
       ∙ getD-map (λ r. g (getD r j d)) P i [] e h
 
 pub transpose-twice : {A B : Type 0} (f : A → B) (g : B → A) (d : A) (e : B) (P : List (List A)) → ((a : A) → g (f a) ≡ a)
-  → Even P → 0 < width P → transpose g e (transpose f d P) ≡ P
+    → Even P → 0 < width P → transpose g e (transpose f d P) ≡ P
 unfolding transpose column
 transpose-twice f g d e P inv even h =
     ap (λ n. build n (column g e (transpose f d P))) (width-transpose f d P h)
@@ -47,6 +47,6 @@ transpose-twice f g d e P inv even h =
     row i k =
         map-run (λ r. g (getD r i e)) (column f d P) 0 (width P)
         ∙ build-same (width P) (λ j. g (getD (column f d P j) i e)) (λ j. getD (getD P i []) j d)
-          (λ j m. ap g (getD-map (λ r. f (getD r j d)) P i [] e k) ∙ inv (getD (getD P i []) j d))
+        (λ j m. ap g (getD-map (λ r. f (getD r j d)) P i [] e k) ∙ inv (getD (getD P i []) j d))
         ∙ ap (λ n. build n (λ j. getD (getD P i []) j d)) (sym (row-length (width P) P even i k))
         ∙ build-getD (getD P i []) d

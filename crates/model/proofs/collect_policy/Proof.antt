@@ -1,0 +1,29 @@
+-- `model::collect_policy` meets its contract.
+use Rattle.model.specs.Policies.{byLetters, sameText}
+use Rattle.model.proofs.PolicyLaws.{no-sign}
+use borrow.Author.Needs.{needs}
+use Rattle.model.proofs.collect_policy.Statement.{statement}
+use Rattle.model.proofs.collect_policy.Tie as tie
+
+returns : tie.Need-returns
+unfolding byLetters sameText
+returns c = rw (c .match .keys1)
+
+returns-2 : tie.Need-returns-2
+unfolding byLetters sameText
+returns-2 c = rw (c .match .keys2)
+
+returns-3 : tie.Need-returns-3
+unfolding byLetters sameText
+returns-3 c = rw (c .match .keys3)
+
+returns-4 : tie.Need-returns-4
+unfolding byLetters sameText
+returns-4 c = rw (c .match .keys4)
+
+returns-5 : tie.Need-returns-5
+unfolding byLetters sameText
+returns-5 c = let r = c .match .rest in no-sign _ (r .0 .0 .0 .1) (r .0 .0 .1) (r .0 .1) (r .1)
+
+pub collect-policy-spec : {M : Type 1} → statement M
+collect-policy-spec = tie.close (tie.spec returns returns-2 returns-3 returns-4 returns-5)

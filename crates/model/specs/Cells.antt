@@ -1,0 +1,45 @@
+-- Cells of a plane: the kinds of `Cell` in the Rust, numbered 0 to 7 in its order, and the one number in which a slice holds a cell.
+use Prim.Native.Nat.{ℕ, zero, suc, _+_, _*_, _/_, _%_, _^_, _<_}
+use Rattle.model.specs.declared.Cell.{Cell}
+use Rattle.model.specs.declared.Cell.the-variants.{Region, VerticalOutputDoubleLine, VerticalAnnotationDoubleLine, HorizontalOutputDoubleLine, HorizontalAnnotationsDoubleLine, MainDoubleCrossing, HorizontalDoubleCrossing, VerticalDoubleCrossing}
+
+-- the cell of a kind; a region has its number, any other kind ignores it
+abbrev pub cellOfKind : ℕ → ℕ → Cell
+cellOfKind zero r = Region r
+cellOfKind (suc zero) r = VerticalOutputDoubleLine
+cellOfKind (suc (suc zero)) r = VerticalAnnotationDoubleLine
+cellOfKind (suc (suc (suc zero))) r = HorizontalOutputDoubleLine
+cellOfKind (suc (suc (suc (suc zero)))) r = HorizontalAnnotationsDoubleLine
+cellOfKind (suc (suc (suc (suc (suc zero))))) r = MainDoubleCrossing
+cellOfKind (suc (suc (suc (suc (suc (suc zero)))))) r = HorizontalDoubleCrossing
+cellOfKind (suc (suc (suc (suc (suc (suc (suc k))))))) r = VerticalDoubleCrossing
+
+-- the number that a slice holds for a cell: the kind's number, and in front of it a region's own
+abbrev pub cellNumber : Cell → ℕ
+cellNumber (Region r) = 8 * r
+cellNumber VerticalOutputDoubleLine = 1
+cellNumber VerticalAnnotationDoubleLine = 2
+cellNumber HorizontalOutputDoubleLine = 3
+cellNumber HorizontalAnnotationsDoubleLine = 4
+cellNumber MainDoubleCrossing = 5
+cellNumber HorizontalDoubleCrossing = 6
+cellNumber VerticalDoubleCrossing = 7
+
+-- the cell for which a slice holds a number
+abbrev pub cellOf : ℕ → Cell
+cellOf n = cellOfKind (n % 8) (n / 8)
+
+-- a cell whose number fits 32 bits
+abbrev pub Small : Cell → Type 0
+Small c = cellNumber c < 2 ^ 32
+
+-- the cell in a turned plane: double lines change direction, as in `pivot` of the Rust
+abbrev pub turnedCell : Cell → Cell
+turnedCell (Region r) = Region r
+turnedCell VerticalOutputDoubleLine = HorizontalOutputDoubleLine
+turnedCell VerticalAnnotationDoubleLine = HorizontalAnnotationsDoubleLine
+turnedCell HorizontalOutputDoubleLine = VerticalOutputDoubleLine
+turnedCell HorizontalAnnotationsDoubleLine = VerticalAnnotationDoubleLine
+turnedCell MainDoubleCrossing = MainDoubleCrossing
+turnedCell HorizontalDoubleCrossing = VerticalDoubleCrossing
+turnedCell VerticalDoubleCrossing = HorizontalDoubleCrossing

@@ -1,0 +1,6 @@
+pub mod Box
+pub mod Geometry
+pub mod Policies
+pub mod RuleNumbers
+pub mod Cells
+pub mod Refusals

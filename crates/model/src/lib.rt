@@ -1,0 +1,427 @@
+// The words of a decision table: points, rects, hit policies, placements, cells, and why a sheet is refused.
+ghost use mathlib.Core.Path.{_≡_};
+ghost use mathlib.Core.List.{[], _∷_};
+ghost use Prim.Native.Nat.{_+_, _-_, _<_, _^_};
+ghost use lib.ListN.{drop};
+ghost use Rattle.model.specs.Geometry.{containsOf};
+ghost use Rattle.model.specs.Policies.{policyNumber, orientationNumber, policyOf, policyFound, placedPolicy};
+ghost use Rattle.model.specs.Cells.{cellNumber, cellOf, turnedCell, Small};
+ghost use Rattle.model.specs.Refusals.{numbers};
+ghost use Rattle.model.specs.RuleNumbers.{numberOf, numberFound, unsigned};
+
+// A place on a canvas: column x of row y.
+pub struct Point {
+    pub x: usize,
+    pub y: usize,
+}
+
+impl Point {
+    pub fn new(x: usize, y: usize) -> Self
+        ensures { λ r. ⌜ (r .x ≡ x) × (r .y ≡ y) ⌝ }
+    {
+        Self { x, y }
+    }
+
+    pub fn zero() -> Self
+        ensures { λ r. ⌜ (r .x ≡ 0) × (r .y ≡ 0) ⌝ }
+    {
+        Self { x: 0, y: 0 }
+    }
+}
+
+// A rectangle; right and bottom are exclusive.
+pub struct Rect {
+    pub left: usize,
+    pub top: usize,
+    pub right: usize,
+    pub bottom: usize,
+}
+
+impl Rect {
+    // Whether the other rectangle lies in this one.
+    pub fn contains(self, other: Rect) -> bool
+        ensures { λ r. ⌜ r ≡ containsOf self other ⌝ }
+    {
+        if other.left < self.left {
+            return false;
+        }
+        if other.top < self.top {
+            return false;
+        }
+        if self.right < other.right {
+            return false;
+        }
+        other.bottom <= self.bottom
+    }
+
+    pub fn width(self) -> usize
+        ensures { λ r. ⌜ r ≡ self .right - self .left ⌝ }
+    {
+        if self.right < self.left {
+            return 0;
+        }
+        self.right - self.left
+    }
+
+    pub fn height(self) -> usize
+        ensures { λ r. ⌜ r ≡ self .bottom - self .top ⌝ }
+    {
+        if self.bottom < self.top {
+            return 0;
+        }
+        self.bottom - self.top
+    }
+
+    // The same rectangle from a lower row on.
+    pub fn offset_top(self, offset: usize) -> Rect
+        requires { ⌜ self .top + offset < 2 ^ 64 ⌝ }
+        ensures { λ r. ⌜ r ≡ record { left = self .left; top = self .top + offset; right = self .right; bottom = self .bottom } ⌝ }
+    {
+        Rect {
+            left: self.left,
+            top: self.top + offset,
+            right: self.right,
+            bottom: self.bottom,
+        }
+    }
+}
+
+// What becomes of several matching rules' outputs under the policy COLLECT.
+pub enum BuiltinAggregator {
+    List,
+    Count,
+    Sum,
+    Min,
+    Max,
+}
+
+pub enum HitPolicy {
+    Unique,
+    Any,
+    Priority,
+    First,
+    Collect(BuiltinAggregator),
+    OutputOrder,
+    RuleOrder,
+}
+
+// Whether rules are rows or columns. (Crosstab sheets are refused.)
+pub enum Orientation {
+    RulesAsRows,
+    RulesAsColumns,
+}
+
+// A text's hit policy, if it is one.
+pub enum FoundPolicy {
+    Policy(HitPolicy),
+    NoPolicy,
+}
+
+// Where the hit policy stands in a plane.
+pub enum HitPolicyPlacement {
+    TopLeft(HitPolicy),
+    BottomLeft(HitPolicy),
+    NotPresent,
+}
+
+// Where the rule numbers stand in a plane, and how many there are.
+pub enum RuleNumbersPlacement {
+    LeftBelow(u64),
+    RightAfter(u64),
+    NotPresent,
+}
+
+// A cell of a plane: a region by its number, a double line, or a crossing of double lines.
+pub enum Cell {
+    Region(u32),
+    VerticalOutputDoubleLine,
+    VerticalAnnotationDoubleLine,
+    HorizontalOutputDoubleLine,
+    HorizontalAnnotationsDoubleLine,
+    MainDoubleCrossing,
+    HorizontalDoubleCrossing,
+    VerticalDoubleCrossing,
+}
+
+// A text's rule number, if it is one.
+pub enum RuleNumber {
+    Number(u64),
+    NoNumber,
+}
+
+// Why a sheet, a lent plane or a text is refused.
+pub enum Refusal {
+    InvalidUtf8(usize),
+    CanvasTooLarge(usize, usize),
+    CharactersNotFound(u32),
+    CharacterNotAllowed(u32),
+    RectangleNotClosed(usize, usize),
+    RegionNotFound(usize, usize),
+    OverLimit,
+    PlaneEmpty,
+    NoMainCrossing,
+    PlaneMalformed,
+    InvalidRuleNumber(u64),
+    ExpectedLeftBelow,
+    ExpectedTopLeft,
+    ExpectedRightAfter,
+    ExpectedBottomLeft,
+    ExpectedNoRuleNumbers,
+    CrossTab,
+    CellOutOfRange(usize, usize),
+    CellNotRegion(usize, usize),
+    ClauseRows(usize),
+    InvalidInputExpressions,
+    InvalidOutputExpressions,
+    NoOutputClause,
+    TooManyOutputRows,
+    InvalidSize(u32),
+    LentPlaneMalformed,
+    OutputSliceShort(usize),
+    WorkSliceShort(usize, usize),
+}
+
+// A refusal as document 01 numbers it: N, A, B.
+pub struct Numbers {
+    pub n: u64,
+    pub a: u64,
+    pub b: u64,
+}
+
+// A policy's number in a record.
+pub fn policy_number(h: HitPolicy) -> u32
+    ensures { λ r. ⌜ r ≡ policyNumber h ⌝ }
+{
+    match h {
+        HitPolicy::Unique => 0,
+        HitPolicy::Any => 1,
+        HitPolicy::Priority => 2,
+        HitPolicy::First => 3,
+        HitPolicy::RuleOrder => 4,
+        HitPolicy::OutputOrder => 5,
+        HitPolicy::Collect(a) => aggregator_number(a),
+    }
+}
+
+fn aggregator_number(a: BuiltinAggregator) -> u32
+    ensures { λ r. ⌜ r ≡ policyNumber (HitPolicy.Collect a) ⌝ }
+{
+    match a {
+        BuiltinAggregator::List => 6,
+        BuiltinAggregator::Sum => 7,
+        BuiltinAggregator::Count => 8,
+        BuiltinAggregator::Min => 9,
+        BuiltinAggregator::Max => 10,
+    }
+}
+
+// An orientation's number in a record.
+pub fn orientation_number(o: Orientation) -> u32
+    ensures { λ r. ⌜ r ≡ orientationNumber o ⌝ }
+{
+    match o {
+        Orientation::RulesAsRows => 0,
+        Orientation::RulesAsColumns => 1,
+    }
+}
+
+// The policy of a text of one letter.
+fn letter_policy(c: u8) -> FoundPolicy
+    ensures { λ r. ⌜ policyFound r ≡ policyOf (c ∷ []) ⌝ }
+{
+    match c {
+        0x55 => FoundPolicy::Policy(HitPolicy::Unique),
+        0x41 => FoundPolicy::Policy(HitPolicy::Any),
+        0x50 => FoundPolicy::Policy(HitPolicy::Priority),
+        0x46 => FoundPolicy::Policy(HitPolicy::First),
+        0x52 => FoundPolicy::Policy(HitPolicy::RuleOrder),
+        0x4F => FoundPolicy::Policy(HitPolicy::OutputOrder),
+        0x43 => FoundPolicy::Policy(HitPolicy::Collect(BuiltinAggregator::List)),
+        _ => FoundPolicy::NoPolicy,
+    }
+}
+
+// The policy of a C and a sign.
+fn collect_policy(c: u8) -> FoundPolicy
+    ensures { λ r. ⌜ policyFound r ≡ policyOf (0x43 ∷ c ∷ []) ⌝ }
+{
+    match c {
+        0x2B => FoundPolicy::Policy(HitPolicy::Collect(BuiltinAggregator::Sum)),
+        0x23 => FoundPolicy::Policy(HitPolicy::Collect(BuiltinAggregator::Count)),
+        0x3C => FoundPolicy::Policy(HitPolicy::Collect(BuiltinAggregator::Min)),
+        0x3E => FoundPolicy::Policy(HitPolicy::Collect(BuiltinAggregator::Max)),
+        _ => FoundPolicy::NoPolicy,
+    }
+}
+
+// The hit policy of a trimmed text.
+pub fn hit_policy(s: &[u8]) -> FoundPolicy
+    ensures { λ r. ⌜ policyFound r ≡ policyOf (now (s .entry)) ⌝ }
+{
+    if s.len() == 1 {
+        return letter_policy(s[0]);
+    }
+    if s.len() != 2 {
+        return FoundPolicy::NoPolicy;
+    }
+    if s[0] != 0x43 {
+        return FoundPolicy::NoPolicy;
+    }
+    collect_policy(s[1])
+}
+
+// The placed policy, where it stands as the orientation wants it.
+pub fn placed_policy(p: HitPolicyPlacement, o: Orientation) -> FoundPolicy
+    ensures { λ r. ⌜ policyFound r ≡ placedPolicy p o ⌝ }
+{
+    match o {
+        Orientation::RulesAsRows => match p {
+            HitPolicyPlacement::TopLeft(h) => FoundPolicy::Policy(h),
+            HitPolicyPlacement::BottomLeft(_) => FoundPolicy::NoPolicy,
+            HitPolicyPlacement::NotPresent => FoundPolicy::NoPolicy,
+        },
+        Orientation::RulesAsColumns => match p {
+            HitPolicyPlacement::TopLeft(_) => FoundPolicy::NoPolicy,
+            HitPolicyPlacement::BottomLeft(h) => FoundPolicy::Policy(h),
+            HitPolicyPlacement::NotPresent => FoundPolicy::NoPolicy,
+        },
+    }
+}
+
+fn wide(x: u8) -> u64
+    ensures { λ r. ⌜ r ≡ x ⌝ }
+{
+    x as u64
+}
+
+// The number that the text from an index on is, digits alone.
+fn unsigned_number(s: &[u8], from: usize) -> RuleNumber
+    ensures { λ r. ⌜ numberFound r ≡ unsigned (drop from (now (s .entry))) ⌝ }
+{
+    if s.len() <= from {
+        return RuleNumber::NoNumber;
+    }
+    let mut i = from;
+    let mut a: u64 = 0;
+    while i < s.len() {
+        let c = s[i];
+        if c < 0x30 {
+            return RuleNumber::NoNumber;
+        }
+        if 0x39 < c {
+            return RuleNumber::NoNumber;
+        }
+        let d = wide(c) - 0x30;
+        if (0xFFFF_FFFF_FFFF_FFFF - d) / 10 < a {
+            return RuleNumber::NoNumber;
+        }
+        a = a * 10 + d;
+        i += 1;
+    }
+    RuleNumber::Number(a)
+}
+
+// The rule number of a trimmed text.
+pub fn rule_number(s: &[u8]) -> RuleNumber
+    ensures { λ r. ⌜ numberFound r ≡ numberOf (now (s .entry)) ⌝ }
+{
+    if s.len() == 0 {
+        return RuleNumber::NoNumber;
+    }
+    if s[0] == 0x2B {
+        return unsigned_number(s, 1);
+    }
+    unsigned_number(s, 0)
+}
+
+// The number that a slice holds for a cell.
+pub fn cell_number(c: Cell) -> u32
+    requires { ⌜ Small c ⌝ }
+    ensures { λ r. ⌜ r ≡ cellNumber c ⌝ }
+{
+    match c {
+        Cell::Region(r) => 8 * r,
+        Cell::VerticalOutputDoubleLine => 1,
+        Cell::VerticalAnnotationDoubleLine => 2,
+        Cell::HorizontalOutputDoubleLine => 3,
+        Cell::HorizontalAnnotationsDoubleLine => 4,
+        Cell::MainDoubleCrossing => 5,
+        Cell::HorizontalDoubleCrossing => 6,
+        Cell::VerticalDoubleCrossing => 7,
+    }
+}
+
+// The cell for which a slice holds a number.
+pub fn cell_of(n: u32) -> Cell
+    ensures { λ r. ⌜ r ≡ cellOf n ⌝ }
+{
+    let kind = n % 8;
+    match kind {
+        0 => Cell::Region(n / 8),
+        1 => Cell::VerticalOutputDoubleLine,
+        2 => Cell::VerticalAnnotationDoubleLine,
+        3 => Cell::HorizontalOutputDoubleLine,
+        4 => Cell::HorizontalAnnotationsDoubleLine,
+        5 => Cell::MainDoubleCrossing,
+        6 => Cell::HorizontalDoubleCrossing,
+        _ => Cell::VerticalDoubleCrossing,
+    }
+}
+
+// The cell in a turned plane.
+pub fn turned_cell(c: Cell) -> Cell
+    ensures { λ r. ⌜ r ≡ turnedCell c ⌝ }
+{
+    match c {
+        Cell::Region(r) => Cell::Region(r),
+        Cell::VerticalOutputDoubleLine => Cell::HorizontalOutputDoubleLine,
+        Cell::VerticalAnnotationDoubleLine => Cell::HorizontalAnnotationsDoubleLine,
+        Cell::HorizontalOutputDoubleLine => Cell::VerticalOutputDoubleLine,
+        Cell::HorizontalAnnotationsDoubleLine => Cell::VerticalAnnotationDoubleLine,
+        Cell::MainDoubleCrossing => Cell::MainDoubleCrossing,
+        Cell::HorizontalDoubleCrossing => Cell::VerticalDoubleCrossing,
+        Cell::VerticalDoubleCrossing => Cell::HorizontalDoubleCrossing,
+    }
+}
+
+fn numbered(n: u64, a: u64, b: u64) -> Numbers
+    ensures { λ r. ⌜ r ≡ record { n = n; a = a; b = b } ⌝ }
+{
+    Numbers { n, a, b }
+}
+
+// A refusal's N, A and B.
+pub fn refusal_numbers(r: Refusal) -> Numbers
+    ensures { λ x. ⌜ x ≡ numbers r ⌝ }
+{
+    match r {
+        Refusal::InvalidUtf8(index) => numbered(1, index as u64, 0),
+        Refusal::CanvasTooLarge(rows, columns) => numbered(2, rows as u64, columns as u64),
+        Refusal::CharactersNotFound(code) => numbered(3, code as u64, 0),
+        Refusal::CharacterNotAllowed(code) => numbered(4, code as u64, 0),
+        Refusal::RectangleNotClosed(column, row) => numbered(5, column as u64, row as u64),
+        Refusal::RegionNotFound(left, top) => numbered(6, left as u64, top as u64),
+        Refusal::OverLimit => numbered(7, 0, 0),
+        Refusal::PlaneEmpty => numbered(8, 0, 0),
+        Refusal::NoMainCrossing => numbered(9, 0, 0),
+        Refusal::PlaneMalformed => numbered(10, 0, 0),
+        Refusal::InvalidRuleNumber(number) => numbered(11, number, 0),
+        Refusal::ExpectedLeftBelow => numbered(12, 0, 0),
+        Refusal::ExpectedTopLeft => numbered(13, 0, 0),
+        Refusal::ExpectedRightAfter => numbered(14, 0, 0),
+        Refusal::ExpectedBottomLeft => numbered(15, 0, 0),
+        Refusal::ExpectedNoRuleNumbers => numbered(16, 0, 0),
+        Refusal::CrossTab => numbered(17, 0, 0),
+        Refusal::CellOutOfRange(row, column) => numbered(18, row as u64, column as u64),
+        Refusal::CellNotRegion(row, column) => numbered(19, row as u64, column as u64),
+        Refusal::ClauseRows(rows) => numbered(20, rows as u64, 0),
+        Refusal::InvalidInputExpressions => numbered(21, 0, 0),
+        Refusal::InvalidOutputExpressions => numbered(22, 0, 0),
+        Refusal::NoOutputClause => numbered(23, 0, 0),
+        Refusal::TooManyOutputRows => numbered(24, 0, 0),
+        Refusal::InvalidSize(check) => numbered(25, check as u64, 0),
+        Refusal::LentPlaneMalformed => numbered(26, 0, 0),
+        Refusal::OutputSliceShort(bytes) => numbered(27, bytes as u64, 0),
+        Refusal::WorkSliceShort(slice, length) => numbered(28, slice as u64, length as u64),
+    }
+}
