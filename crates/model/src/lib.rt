@@ -9,6 +9,8 @@ ghost use Rattle.model.specs.Cells.{cellNumber, cellOf, turnedCell, Smal
 ghost use Rattle.model.specs.Refusals.{numbers};
 ghost use Rattle.model.specs.RuleNumbers.{numberOf, numberFound, unsigned};
 
+pub mod box_drawing;
+
 // A place on a canvas: column x of row y.
 pub struct Point {
     pub x: usize,

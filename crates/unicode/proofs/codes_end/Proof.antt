@@ -1,0 +1,73 @@
+-- `unicode::codes_end` meets its contract. The invariant: what is trimmed from the end is the same up to `to`.
+use mathlib.Core.Path.{_≡_, refl, sym, ap, _∙_}
+use Prim.Native.Nat.{_-_, _≤_}
+use borrow.Author.Needs.{needs}
+use native.Mathlib.Nat.{le-refl}
+use lib.ListN.{length, take, drop}
+use Rattle.lists.proofs.Parts.{part-end}
+use Rattle.unicode.specs.Trim.{trimEnd}
+use Rattle.unicode.proofs.TrimLaws.{end-white, end-dark, end-none}
+use Rattle.unicode.proofs.codes_end.Statement.{statement}
+use Rattle.unicode.proofs.codes_end.Tie as tie
+
+abbrev Inv-loop : tie.InvT-loop
+Inv-loop s from to₀ to = (from ≤ to) × (to ≤ length s) × (trimEnd (drop from s) ≡ trimEnd (take (to - from) (drop from s)))
+
+abbrev μ-loop : tie.MeasureT-loop
+μ-loop s from to₀ to = to
+
+loop-holds : tie.Need-loop-holds Inv-loop μ-loop
+loop-holds c = (search needs, search needs, ap trimEnd (sym (part-end (c .before .args .s .now) (c .before .args .from))))
+
+sub-white-space : tie.Need-sub-white-space Inv-loop μ-loop
+sub-white-space c = search needs
+
+mul-white-space : tie.Need-mul-white-space Inv-loop μ-loop
+mul-white-space c = search needs
+
+shared-slice-read-white-space : tie.Need-shared-slice-read-white-space Inv-loop μ-loop
+shared-slice-read-white-space c = search needs
+
+white-space-requires : tie.Need-white-space-requires Inv-loop μ-loop
+white-space-requires c κs = search needs
+
+sub-to : tie.Need-sub-to Inv-loop μ-loop
+sub-to c = search needs
+
+loop-less : tie.Need-loop-less Inv-loop μ-loop
+loop-less c = search needs
+
+loop-again : tie.Need-loop-again Inv-loop μ-loop
+loop-again c =
+    let l = c .before .before .before .before in
+    let a = l .before .before .args in
+    (search needs, search needs, l .loop .inv .2 ∙ end-white (a .s .now) (a .from) (l .loop .to) (search needs) (search needs) (sym (c .before .white-space .ensures) ∙ c .if1 .taken))
+
+returns : tie.Need-returns Inv-loop μ-loop
+returns c =
+    let l = c .before .before .before .before in
+    let a = l .before .before .args in
+    record { low = le-refl _; ordered = search needs; high = search needs; text = sym (l .loop .inv .2 ∙ end-dark (a .s .now) (a .from) (l .loop .to) (search needs) (search needs) (sym (c .before .white-space .ensures) ∙ c .if1 .left)) }
+
+returns-2 : tie.Need-returns-2 Inv-loop μ-loop
+returns-2 c =
+    let l = c .before in
+    let a = l .before .before .args in
+    record { low = le-refl _; ordered = search needs; high = search needs; text = sym (l .loop .inv .2 ∙ end-none (a .s .now) (a .from) (l .loop .to) (search needs)) }
+
+pub codes-end-spec : {M : Type 1} → statement M
+codes-end-spec =
+    tie.close
+    (tie.spec
+    Inv-loop
+    μ-loop
+    loop-holds
+    sub-white-space
+    mul-white-space
+    shared-slice-read-white-space
+    white-space-requires
+    sub-to
+    loop-less
+    loop-again
+    returns
+    returns-2)

@@ -1,0 +1,24 @@
+-- `unicode::line_at` meets its contract.
+use Rattle.unicode.proofs.LineLaws.{line-of}
+use mathlib.Core.Path.{_≡_, refl, sym, ap, _∙_}
+use mathlib.Core.List.{List, [], _∷_, _++_}
+use Prim.Native.Nat.{ℕ, _+_, _-_, _*_, _≤_, _<_}
+use native.Mathlib.Omega.{arith}
+use borrow.Author.Needs.{needs}
+use lib.ListN.{length, getD, take, drop}
+use Rattle.unicode.proofs.line_at.Statement.{statement}
+use Rattle.unicode.proofs.line_at.Tie as tie
+
+skip-white-requires : tie.Need-skip-white-requires
+skip-white-requires c κs = search needs
+
+line-rest-requires : tie.Need-line-rest-requires
+line-rest-requires c κs = search needs
+
+returns : tie.Need-returns
+returns c =
+    let k = c .before .skip-white .ensures in
+    line-of (k .0) (k .1) (k .2) (c .line-rest .ensures)
+
+pub line-at-spec : {M : Type 1} → statement M
+line-at-spec = tie.close (tie.spec skip-white-requires line-rest-requires returns)

@@ -1,0 +1,95 @@
+-- `unicode::line_rest` meets its contract.
+use Rattle.unicode.specs.Utf8.{codes, decode}
+use Rattle.unicode.specs.Lines.{line, after}
+use Rattle.unicode.specs.declared.Decoded.the-variants.{Char}
+use Rattle.unicode.proofs.Utf8Laws.{char-fits, codes-at, codes-bad, codes-end, codes-none}
+use Rattle.unicode.proofs.LineLaws.{Scanned, scan-start, scan-fits, scan-white, scan-dark, scan-feed, scan-stop, scan-end}
+use mathlib.Core.Path.{_≡_, refl, sym, ap, _∙_}
+use mathlib.Core.List.{List, [], _∷_, _++_}
+use Prim.Native.Nat.{ℕ, _+_, _-_, _*_, _≤_, _<_}
+use native.Mathlib.Omega.{arith}
+use borrow.Author.Needs.{needs}
+use lib.ListN.{length, getD, take, drop}
+use Rattle.unicode.proofs.line_rest.Statement.{statement}
+use Rattle.unicode.proofs.line_rest.Tie as tie
+
+abbrev Inv-loop : tie.InvT-loop
+Inv-loop s from p₀ k₀ count₀ last₀ p k count last = Scanned s from p k count last
+
+abbrev μ-loop : tie.MeasureT-loop
+μ-loop s from p₀ k₀ count₀ last₀ p k count last = length s - p
+
+loop-holds : tie.Need-loop-holds Inv-loop μ-loop
+loop-holds c = scan-start _ _ (c .before .pre)
+
+next-requires : tie.Need-next-requires Inv-loop μ-loop
+next-requires c κs = search needs
+
+enum-known-d : tie.Need-enum-known-d Inv-loop μ-loop
+enum-known-d c = search needs
+
+-- in the arm of a code point
+char : (c : tie.After-known-told Inv-loop μ-loop) → decode (drop (c .before .before .before .before .before .loop .p) (c .before .before .before .before .before .before .before .args .s .now)) ≡ Char (c .before .d .given .0 .0) (c .before .d .given .0 .1 .0)
+char c = sym (c .before .before .before .next .ensures) ∙ c .before .d .given .1
+
+add-p : tie.Need-add-p Inv-loop μ-loop
+add-p c = omega (arith, scan-fits (c .before .before .before .before .before .loop .inv) (char c))
+
+returns : tie.Need-returns Inv-loop μ-loop
+returns c = scan-feed (c .before .before .before .before .before .before .loop .inv) (char (c .before)) (c .if1 .taken)
+
+add-k : tie.Need-add-k Inv-loop μ-loop
+add-k c = omega (arith, scan-fits (c .before .before .before .before .before .before .loop .inv) (char (c .before)))
+
+white-space-requires : tie.Need-white-space-requires Inv-loop μ-loop
+white-space-requires c κs = search needs
+
+loop-less : tie.Need-loop-less Inv-loop μ-loop
+loop-less c = omega (arith, scan-fits (c .before .before .before .before .before .before .before .before .loop .inv) (char (c .before .before .before)))
+
+loop-again : tie.Need-loop-again Inv-loop μ-loop
+loop-again c = scan-white (c .before .before .before .before .before .before .before .before .loop .inv) (char (c .before .before .before)) (c .before .before .if1 .left) (sym (c .before .white-space .ensures) ∙ c .if2 .taken)
+
+loop-less-2 : tie.Need-loop-less-2 Inv-loop μ-loop
+loop-less-2 c = omega (arith, scan-fits (c .before .before .before .before .before .before .before .before .loop .inv) (char (c .before .before .before)))
+
+loop-again-2 : tie.Need-loop-again-2 Inv-loop μ-loop
+loop-again-2 c = scan-dark (c .before .before .before .before .before .before .before .before .loop .inv) (char (c .before .before .before)) (c .before .before .if1 .left) (sym (c .before .white-space .ensures) ∙ c .if2 .left)
+
+enum-told : tie.Need-enum-told Inv-loop μ-loop
+enum-told c = search needs
+
+returns-2 : tie.Need-returns-2 Inv-loop μ-loop
+returns-2 c = scan-stop (c .before .before .before .before .loop .inv) (codes-bad _ (sym (c .before .before .next .ensures) ∙ c .enum-told .given .1))
+
+enum-told-2 : tie.Need-enum-told-2 Inv-loop μ-loop
+enum-told-2 c = search needs
+
+returns-3 : tie.Need-returns-3 Inv-loop μ-loop
+returns-3 c = scan-stop (c .before .before .before .before .loop .inv) (codes-none _ (sym (c .before .before .next .ensures) ∙ c .enum-told2 .given .1))
+
+returns-4 : tie.Need-returns-4 Inv-loop μ-loop
+returns-4 c = scan-end (c .before .loop .inv) (c .loop-test .left)
+
+pub line-rest-spec : {M : Type 1} → statement M
+line-rest-spec =
+    tie.close
+    (tie.spec
+    Inv-loop
+    μ-loop
+    loop-holds
+    next-requires
+    enum-known-d
+    add-p
+    returns
+    add-k
+    white-space-requires
+    loop-less
+    loop-again
+    loop-less-2
+    loop-again-2
+    enum-told
+    returns-2
+    enum-told-2
+    returns-3
+    returns-4)

@@ -1,0 +1,5 @@
+pub mod Utf8
+pub mod White
+pub mod Trim
+pub mod Lines
+pub mod LineScan
