@@ -5,11 +5,12 @@ use mathlib.Core.List.{List, [], _∷_, _++_, append-nil, append-assoc}
 use Prim.Native.Nat.{ℕ, _+_, _-_, _≤_, _<_}
 use native.Mathlib.Omega.{arith}
 use lib.ListN.{length, take, drop, length-drop}
+use lib.Seq.{length-take-le}
 use Rattle.lists.specs.Choose.{choose}
 use Rattle.lists.proofs.Parts.{part-add, part-end}
 use Rattle.unicode.specs.White.{white}
 use Rattle.unicode.specs.Utf8.{decode, check, checked, codes, encode, encodes}
-use Rattle.unicode.specs.Trim.{trimStart, trimEnd, trim, trimUtf8, whereValid, PartIn}
+use Rattle.unicode.specs.Trim.{trimStart, trimEnd, trim, trimStartUtf8, trimUtf8, PartIn}
 use Rattle.unicode.specs.LineScan.{Led}
 use Rattle.unicode.specs.declared.Decoded.the-variants.{Char, IllFormed, End}
 use Rattle.unicode.specs.declared.Checked.{Checked}
@@ -72,26 +73,30 @@ trimming-start {s} {from} l =
     record { led = l; low = omega arith; mid = omega arith; inside = l .inside; done = []; passed = refl; bytes = rw z; kept = rw z; checks = l .checks }
 
 -- the whole text, where it is ill-formed
-pub trimming-bad : (s : List ℕ) (at : ℕ) → checked s ≡ Invalid at → PartIn s 0 (length s) (trimUtf8 s) 0 (length s)
-unfolding trimUtf8
-trimming-bad s at e = record { low = omega arith; ordered = omega arith; high = omega arith; text = part-end s 0 ∙ rw e }
+pub trimming-bad : (s : List ℕ) (at : ℕ) → checked s ≡ Invalid at → PartIn s 0 (length s) (trimStartUtf8 s) (trimUtf8 s) 0 (length s)
+unfolding trimUtf8 trimStartUtf8
+trimming-bad s at e = record { low = omega arith; ordered = omega arith; high = omega arith; start = rw e (omega arith); text = part-end s 0 ∙ rw e }
 
 module _ {s : List ℕ} {from p to : ℕ} (i : Trimming s from p to) where
-  pub trimming-stop : decode (drop p s) ≡ IllFormed → PartIn s 0 (length s) (trimUtf8 s) 0 (length s)
+  pub trimming-stop : decode (drop p s) ≡ IllFormed → PartIn s 0 (length s) (trimStartUtf8 s) (trimUtf8 s) 0 (length s)
   trimming-stop e = trimming-bad s p (i .checks ∙ check-bad p (drop p s) e)
 
   pub trimming-none : {A : Type 0} → p < length s → decode (drop p s) ≡ End → A
   trimming-none h e = let l : length s - p ≡ 0 = sym (length-drop p s) ∙ ap length (decode-none (drop p s) e) in absurd (omega arith)
 
-  pub trimming-end : length s ≤ p → PartIn s 0 (length s) (trimUtf8 s) from to
-  unfolding trimUtf8 trim
+  pub trimming-end : length s ≤ p → PartIn s 0 (length s) (trimStartUtf8 s) (trimUtf8 s) from to
+  unfolding trimUtf8 trimStartUtf8 trim
   trimming-end h =
       let v : checked s ≡ Valid = i .checks ∙ check-end s p h in
       let r : codes (drop from s) ≡ i .done = i .passed ∙ ap (λ (x : List ℕ). i .done ++ x) (codes-end s p h) ∙ append-nil (i .done) in
       let t : trimEnd (trimStart (codes s)) ≡ trimEnd (i .done) = ap trimEnd (i .led .same ∙ r) in
       let a = i .mid in
       let b = i .inside in
-      record { low = omega arith; ordered = i .low; high = omega arith; text = i .kept ∙ rw (v, t) }
+      let o = i .low in
+      let f : encodes (trimStart (codes s)) ≡ take (p - from) (drop from s) = ap encodes (i .led .same ∙ r) ∙ sym (i .bytes) in
+      let k = length-drop from s in
+      let l : length (take (p - from) (drop from s)) ≡ p - from = length-take-le (p - from) (drop from s) (omega arith) in
+      record { low = omega arith; ordered = i .low; high = omega arith; start = rw (v, f, l) (omega arith); text = i .kept ∙ rw (v, t) }
 
   module _ {c n : ℕ} (e : decode (drop p s) ≡ Char c n) where
     pub trimming-fits : (1 ≤ n) × (p + n ≤ length s)

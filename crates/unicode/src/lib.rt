@@ -6,7 +6,7 @@ ghost use lib.ListN.{length, drop, set, take};
 ghost use Rattle.lists.specs.Put.{put};
 ghost use Rattle.unicode.specs.Utf8.{more, decode, tail, _–_, checked, codes, encode};
 ghost use Rattle.unicode.specs.White.{white};
-ghost use Rattle.unicode.specs.Trim.{trimStart, trimEnd, trim, trimUtf8, PartIn};
+ghost use Rattle.unicode.specs.Trim.{trimStart, trimEnd, trim, trimStartUtf8, trimUtf8, PartIn};
 ghost use Rattle.unicode.specs.Lines.{LineAt};
 ghost use Rattle.unicode.specs.LineScan.{lead, Led, RestAt};
 
@@ -174,7 +174,7 @@ fn codes_start(s: &[u32]) -> usize
 // Where the code points from `from` on end, without the white space behind them.
 fn codes_end(s: &[u32], from: usize) -> usize
     requires { ⌜ from ≤ length (now s) ⌝ }
-    ensures { λ r. ⌜ PartIn (now (s .entry)) from (length (now (s .entry))) (trimEnd (drop from (now (s .entry)))) from r ⌝ }
+    ensures { λ r. ⌜ PartIn (now (s .entry)) from (length (now (s .entry))) (drop from (now (s .entry))) (trimEnd (drop from (now (s .entry)))) from r ⌝ }
 {
     let mut to = s.len();
     while from < to {
@@ -189,7 +189,7 @@ fn codes_end(s: &[u32], from: usize) -> usize
 
 // The part of some code points that is left without the white space at the ends.
 pub fn trim_codes(s: &[u32]) -> Part
-    ensures { λ r. ⌜ PartIn (now (s .entry)) 0 (length (now (s .entry))) (trim (now (s .entry))) (r .from) (r .to) ⌝ }
+    ensures { λ r. ⌜ PartIn (now (s .entry)) 0 (length (now (s .entry))) (trimStart (now (s .entry))) (trim (now (s .entry))) (r .from) (r .to) ⌝ }
 {
     let from = codes_start(s);
     let to = codes_end(s, from);
@@ -199,7 +199,7 @@ pub fn trim_codes(s: &[u32]) -> Part
 // The same of the code points from a up to e.
 pub fn trim_codes_part(s: &[u32], a: usize, e: usize) -> Part
     requires { ⌜ (a ≤ e) × (e ≤ length (now s)) ⌝ }
-    ensures { λ r. ⌜ PartIn (now (s .entry)) a e (trim (take (e - a) (drop a (now (s .entry))))) (r .from) (r .to) ⌝ }
+    ensures { λ r. ⌜ PartIn (now (s .entry)) a e (trimStart (take (e - a) (drop a (now (s .entry))))) (trim (take (e - a) (drop a (now (s .entry))))) (r .from) (r .to) ⌝ }
 {
     let r = trim_codes(&s[a..e]);
     Part {
@@ -236,7 +236,7 @@ fn utf8_start(s: &[u8]) -> usize
 
 // The part of a text in UTF-8 that is left without the white space at its ends; the whole of it where it is ill-formed.
 pub fn trim_utf8(s: &[u8]) -> Part
-    ensures { λ r. ⌜ PartIn (now (s .entry)) 0 (length (now (s .entry))) (trimUtf8 (now (s .entry))) (r .from) (r .to) ⌝ }
+    ensures { λ r. ⌜ PartIn (now (s .entry)) 0 (length (now (s .entry))) (trimStartUtf8 (now (s .entry))) (trimUtf8 (now (s .entry))) (r .from) (r .to) ⌝ }
 {
     let from = utf8_start(s);
     let mut p = from;
@@ -265,7 +265,7 @@ pub fn trim_utf8(s: &[u8]) -> Part
 // The same of the bytes from a up to e.
 pub fn trim_utf8_part(s: &[u8], a: usize, e: usize) -> Part
     requires { ⌜ (a ≤ e) × (e ≤ length (now s)) ⌝ }
-    ensures { λ r. ⌜ PartIn (now (s .entry)) a e (trimUtf8 (take (e - a) (drop a (now (s .entry))))) (r .from) (r .to) ⌝ }
+    ensures { λ r. ⌜ PartIn (now (s .entry)) a e (trimStartUtf8 (take (e - a) (drop a (now (s .entry))))) (trimUtf8 (take (e - a) (drop a (now (s .entry))))) (r .from) (r .to) ⌝ }
 {
     let r = trim_utf8(&s[a..e]);
     Part {

@@ -1,14 +1,19 @@
 -- `unicode::codes_end` meets its contract. The invariant: what is trimmed from the end is the same up to `to`.
 use mathlib.Core.Path.{_≡_, refl, sym, ap, _∙_}
-use Prim.Native.Nat.{_-_, _≤_}
+use Prim.Native.Nat.{ℕ, _+_, _-_, _≤_}
 use borrow.Author.Needs.{needs}
 use native.Mathlib.Nat.{le-refl}
-use lib.ListN.{length, take, drop}
+use native.Mathlib.Omega.{arith}
+use mathlib.Core.List.{List}
+use lib.ListN.{length, take, drop, length-drop}
 use Rattle.lists.proofs.Parts.{part-end}
 use Rattle.unicode.specs.Trim.{trimEnd}
 use Rattle.unicode.proofs.TrimLaws.{end-white, end-dark, end-none}
 use Rattle.unicode.proofs.codes_end.Statement.{statement}
 use Rattle.unicode.proofs.codes_end.Tie as tie
+
+whole : (s : List ℕ) (from : ℕ) → from ≤ length s → from + length (drop from s) ≡ length s
+whole s from h = omega (arith, length-drop from s)
 
 abbrev Inv-loop : tie.InvT-loop
 Inv-loop s from to₀ to = (from ≤ to) × (to ≤ length s) × (trimEnd (drop from s) ≡ trimEnd (take (to - from) (drop from s)))
@@ -46,14 +51,16 @@ loop-again c =
 returns : tie.Need-returns Inv-loop μ-loop
 returns c =
     let l = c .before .before .before .before in
-    let a = l .before .before .args in
-    record { low = le-refl _; ordered = search needs; high = search needs; text = sym (l .loop .inv .2 ∙ end-dark (a .s .now) (a .from) (l .loop .to) (search needs) (search needs) (sym (c .before .white-space .ensures) ∙ c .if1 .left)) }
+    let g = l .before .before in
+    let a = g .args in
+    record { low = le-refl _; ordered = search needs; high = search needs; start = whole _ _ (g .pre); text = sym (l .loop .inv .2 ∙ end-dark (a .s .now) (a .from) (l .loop .to) (search needs) (search needs) (sym (c .before .white-space .ensures) ∙ c .if1 .left)) }
 
 returns-2 : tie.Need-returns-2 Inv-loop μ-loop
 returns-2 c =
     let l = c .before in
-    let a = l .before .before .args in
-    record { low = le-refl _; ordered = search needs; high = search needs; text = sym (l .loop .inv .2 ∙ end-none (a .s .now) (a .from) (l .loop .to) (search needs)) }
+    let g = l .before .before in
+    let a = g .args in
+    record { low = le-refl _; ordered = search needs; high = search needs; start = whole _ _ (g .pre); text = sym (l .loop .inv .2 ∙ end-none (a .s .now) (a .from) (l .loop .to) (search needs)) }
 
 pub codes-end-spec : {M : Type 1} → statement M
 codes-end-spec =

@@ -1,7 +1,6 @@
 -- `unicode::trim_codes` meets its contract, by what its two callees ensure.
-use mathlib.Core.Path.{ap, _∙_}
 use borrow.Author.Needs.{needs}
-use Rattle.unicode.specs.Trim.{trim, trimEnd}
+use Rattle.unicode.proofs.PartLaws.{trimmed-both}
 use Rattle.unicode.proofs.trim_codes.Statement.{statement}
 use Rattle.unicode.proofs.trim_codes.Tie as tie
 
@@ -12,10 +11,7 @@ codes-end-requires : tie.Need-codes-end-requires
 codes-end-requires c κs = search needs
 
 returns : tie.Need-returns
-unfolding trim
-returns c =
-    let e = c .codes-end .ensures in
-    record { low = search needs; ordered = e .ordered; high = e .high; text = e .text ∙ ap trimEnd (c .before .codes-start .ensures .1) }
+returns c = trimmed-both _ (c .before .codes-start .ensures .1) (c .codes-end .ensures)
 
 pub trim-codes-spec : {M : Type 1} → statement M
 trim-codes-spec = tie.close (tie.spec codes-start-requires codes-end-requires returns)

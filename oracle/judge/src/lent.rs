@@ -1,0 +1,183 @@
+//! The answer to a lent plane.
+
+use crate::limits::{KINDS, PLANE_CELLS, PLANE_ROWS, REGIONS, TEXT_BYTES};
+use crate::messages::refusal;
+use crate::outcome::{Fault, Judged, Outcome, refused_plainly, run};
+use crate::sheet::of_components;
+use recognizer::plane::{Cell, HitPolicyPlacement, Plane, RuleNumbersPlacement};
+use recognizer::rect::Rect;
+use recognizer::{DecisionTableOrientation, HitPolicy, Recognizer};
+use std::fmt::Write;
+
+/// The slices of a lent plane.
+#[derive(Debug, Default, Clone, PartialEq, Eq)]
+pub struct Lent {
+    pub row_lengths: Vec<u64>,
+    pub kinds: Vec<u64>,
+    pub regions: Vec<u64>,
+    pub offsets: Vec<u64>,
+    pub lengths: Vec<u64>,
+    pub bytes: Vec<u8>,
+}
+
+impl Lent {
+    /// Reads a line of numbers.
+    pub fn parse(line: &str) -> Judged<Self> {
+        let fault = || Fault(format!("not a plane: {line}"));
+        let numbers: Option<Vec<u64>> = line.split_whitespace().map(|n| n.parse().ok()).collect();
+        let numbers = numbers.ok_or_else(fault)?;
+        let mut rest = numbers.as_slice();
+        let mut lists = vec![];
+        for _ in 0..6 {
+            lists.push(counted(&mut rest).ok_or_else(fault)?);
+        }
+        let bytes: Option<Vec<u8>> = lists[5].iter().map(|byte| u8::try_from(*byte).ok()).collect();
+        if !rest.is_empty() {
+            return Err(fault());
+        }
+        Ok(Self {
+            bytes: bytes.ok_or_else(fault)?,
+            lengths: lists[4].clone(),
+            offsets: lists[3].clone(),
+            regions: lists[2].clone(),
+            kinds: lists[1].clone(),
+            row_lengths: lists[0].clone(),
+        })
+    }
+
+    /// The line of numbers.
+    pub fn line(&self) -> String {
+        let bytes: Vec<u64> = self.bytes.iter().map(|byte| u64::from(*byte)).collect();
+        let mut out = String::new();
+        for list in
+            [&self.row_lengths, &self.kinds, &self.regions, &self.offsets, &self.lengths, &bytes]
+        {
+            let gap = if out.is_empty() { "" } else { " " };
+            write!(out, "{gap}{}", list.len()).expect("a string takes all");
+            for number in list {
+                write!(out, " {number}").expect("a string takes all");
+            }
+        }
+        out
+    }
+
+    /// Number 26: which of several faults there is does not show.
+    fn is_refused(&self) -> bool {
+        self.is_over_limits() || self.is_uncounted() || self.has_bad_cell() || self.has_bad_part()
+    }
+
+    fn is_over_limits(&self) -> bool {
+        self.row_lengths.len() > PLANE_ROWS
+            || self.row_lengths.iter().any(|length| *length > PLANE_CELLS as u64)
+            || self.offsets.len() > REGIONS
+            || self.lengths.len() > REGIONS
+            || self.bytes.len() > TEXT_BYTES
+    }
+
+    /// Cell slices not as long as the row lengths add up to, or parts with half a place.
+    fn is_uncounted(&self) -> bool {
+        let cells: u128 = self.row_lengths.iter().map(|length| u128::from(*length)).sum();
+        self.kinds.len() as u128 != cells
+            || self.regions.len() as u128 != cells
+            || self.offsets.len() != self.lengths.len()
+    }
+
+    /// An unknown kind, or an unknown region of a kind 0 cell.
+    fn has_bad_cell(&self) -> bool {
+        let known = self.offsets.len() as u64;
+        let mut cells = self.kinds.iter().zip(&self.regions);
+        cells.any(|(kind, region)| *kind >= KINDS || (*kind == 0 && *region >= known))
+    }
+
+    /// A part outside the bytes or not UTF-8, of a region that is used or not.
+    fn has_bad_part(&self) -> bool {
+        (0..self.offsets.len()).any(|region| self.text(region).is_none())
+    }
+
+    /// The text of a region.
+    fn text(&self, region: usize) -> Option<&str> {
+        let start = usize::try_from(self.offsets[region]).ok()?;
+        let end = start.checked_add(usize::try_from(self.lengths[region]).ok()?)?;
+        std::str::from_utf8(self.bytes.get(start..end)?).ok()
+    }
+
+    /// The cell at a place of the cell slices.
+    fn cell(&self, place: usize) -> Cell {
+        match self.kinds[place] {
+            0 => {
+                let region = self.regions[place] as usize;
+                let text = self.text(region).expect("checked before").to_string();
+                Cell::Region(region, Rect::default(), text)
+            }
+            1 => Cell::VerticalOutputDoubleLine,
+            2 => Cell::VerticalAnnotationDoubleLine,
+            3 => Cell::HorizontalOutputDoubleLine,
+            4 => Cell::HorizontalAnnotationsDoubleLine,
+            5 => Cell::MainDoubleCrossing,
+            6 => Cell::HorizontalDoubleCrossing,
+            _ => Cell::VerticalDoubleCrossing,
+        }
+    }
+
+    /// The plane of the Rust. Every row starts with a cell too many, and then the first column is
+    /// removed: so a row may be left without cells.
+    fn plane(&self) -> Plane {
+        let mut plane = Plane::default();
+        let mut place = 0;
+        for (row, length) in self.row_lengths.iter().enumerate() {
+            plane.add_cell(row, Cell::MainDoubleCrossing);
+            for _ in 0..*length {
+                plane.add_cell(row, self.cell(place));
+                place += 1;
+            }
+        }
+        plane.remove_first_column();
+        plane
+    }
+}
+
+/// Takes a count and as many numbers off a list.
+fn counted(rest: &mut &[u64]) -> Option<Vec<u64>> {
+    let (count, numbers) = rest.split_first()?;
+    let (list, numbers) = numbers.split_at_checked(usize::try_from(*count).ok()?)?;
+    *rest = numbers;
+    Some(list.to_vec())
+}
+
+/// The recognizer as `Recognizer::recognize` makes it, over a plane and without a name.
+fn recognizer(plane: Plane) -> Recognizer {
+    Recognizer {
+        plane,
+        information_item_name: None,
+        hit_policy_placement: HitPolicyPlacement::NotPresent,
+        hit_policy: HitPolicy::Unique,
+        rule_numbers_placement: RuleNumbersPlacement::NotPresent,
+        orientation: DecisionTableOrientation::CrossTable,
+        input_clause_count: 0,
+        input_expressions: vec![],
+        allowed_input_values: vec![],
+        input_entries: vec![],
+        output_clause_count: 0,
+        output_label: None,
+        output_components: vec![],
+        allowed_output_values: vec![],
+        output_entries: vec![],
+        annotation_clause_count: 0,
+        annotations: vec![],
+        annotation_entries: vec![],
+        rule_count: 0,
+    }
+}
+
+/// The answer to a lent plane.
+pub fn judge_plane(lent: &Lent, record_bytes: usize) -> Outcome {
+    if lent.is_refused() {
+        return refused_plainly(26);
+    }
+    let mut recognizer = recognizer(lent.plane());
+    match run(|| recognizer.recognize_table_components()) {
+        Ok(Ok(())) => of_components(&recognizer).within(record_bytes),
+        Ok(Err(error)) => refusal(&error),
+        Err(ten) => ten,
+    }
+}

@@ -1,0 +1,14 @@
+//! The judge: what the unchanged Rust answers to sheets, lent planes and value splits, with the
+//! tests that the Rust does not know (numbers 1, 2, 7, 26 and 27) added in the order of document 01.
+
+pub mod canvas;
+pub mod count;
+pub mod generate;
+pub mod lent;
+pub mod limits;
+pub mod messages;
+pub mod outcome;
+pub mod record;
+pub mod sheet;
+pub mod sizes;
+pub mod split;

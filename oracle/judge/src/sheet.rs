@@ -1,0 +1,131 @@
+//! The answer to a sheet, in the order of document 01.
+
+use crate::canvas;
+use crate::limits::{CANVAS_COLUMNS, CANVAS_ROWS};
+use crate::messages::refusal;
+use crate::outcome::{Fault, Judged, Outcome, agree, refused, refused_plainly, run};
+use crate::{record, sizes};
+use recognizer::plane::Cell;
+use recognizer::{Recognizer, from_unicode};
+
+/// The kind of a cell, in the order of `Cell`.
+fn kind(cell: &Cell) -> u64 {
+    match cell {
+        Cell::Region(..) => 0,
+        Cell::VerticalOutputDoubleLine => 1,
+        Cell::VerticalAnnotationDoubleLine => 2,
+        Cell::HorizontalOutputDoubleLine => 3,
+        Cell::HorizontalAnnotationsDoubleLine => 4,
+        Cell::MainDoubleCrossing => 5,
+        Cell::HorizontalDoubleCrossing => 6,
+        Cell::VerticalDoubleCrossing => 7,
+    }
+}
+
+/// The Rust's answer to a text.
+fn by_the_rust(text: &str) -> Outcome {
+    match run(|| from_unicode(text, false)) {
+        Ok(Ok(table)) => Outcome::Record(record::encode(&table)),
+        Ok(Err(error)) => refusal(&error),
+        Err(ten) => ten,
+    }
+}
+
+/// The same with the judge's copy of what comes after the recognizer.
+fn by_the_copy(text: &str) -> Outcome {
+    match run(|| Recognizer::recognize(text, false)) {
+        Ok(Ok(recognizer)) => of_components(&recognizer),
+        Ok(Err(error)) => refusal(&error),
+        Err(ten) => ten,
+    }
+}
+
+/// The answer of the judge's copy to recognized components.
+pub fn of_components(recognizer: &Recognizer) -> Outcome {
+    match sizes::table(recognizer) {
+        Ok(table) => Outcome::Record(record::encode(&table)),
+        Err(check) => refused(25, check.into(), 0.into()),
+    }
+}
+
+/// Whether the judge's own cell is the Rust's.
+fn same_cell(own: &canvas::Plane, row: usize, column: usize, cell: &Cell) -> bool {
+    let own_cell = own.rows[row][column];
+    let same_region = match cell {
+        Cell::Region(number, rect, text) => {
+            own_cell.region == *number
+                && own.regions[*number] == *rect
+                && own.texts[*number] == *text
+        }
+        _ => true,
+    };
+    own_cell.kind == kind(cell) && same_region
+}
+
+/// Whether the judge's own plane is the Rust's, cell by cell.
+fn same_plane(own: &canvas::Plane, rust: &recognizer::plane::Plane) -> bool {
+    own.rows.len() == rust.height()
+        && own.rows.iter().enumerate().all(|(row, cells)| {
+            cells.len() == rust.row_len(row)
+                && (0..cells.len()).all(|column| {
+                    rust.cell(row, column).is_ok_and(|cell| same_cell(own, row, column, cell))
+                })
+        })
+}
+
+/// Number 7, from the judge's own canvas. Where it finds none, it must see what the Rust sees.
+fn over_limits(text: &str, rows: &canvas::Layer) -> Judged<bool> {
+    let Ok(Ok(mut scanned)) = run(|| recognizer::canvas::Canvas::scan(text)) else {
+        return Ok(false);
+    };
+    let own = canvas::plane(rows);
+    if matches!(own, Err(canvas::Stop::OverLimits)) {
+        return Ok(true);
+    }
+    let same = match (&own, run(|| scanned.plane())) {
+        (Ok(own), Ok(Ok(rust))) => same_plane(own, &rust),
+        (own, rust) => own.is_err() && !matches!(rust, Ok(Ok(_))),
+    };
+    agree(same, || format!("planes differ on:\n{text}")).map(|_| false)
+}
+
+/// The answer to the bytes of a sheet.
+pub fn judge_sheet(bytes: &[u8], record_bytes: usize) -> Judged<Outcome> {
+    let text = match std::str::from_utf8(bytes) {
+        Ok(text) => text,
+        Err(error) => return Ok(refused(1, error.valid_up_to().into(), 0.into())),
+    };
+    let rows = canvas::collected(text);
+    let columns = canvas::width(&rows);
+    if rows.len() > CANVAS_ROWS || columns > CANVAS_COLUMNS {
+        return Ok(refused(2, rows.len().into(), columns.into()));
+    }
+    if over_limits(text, &rows)? {
+        return Ok(refused_plainly(7));
+    }
+    let outcome = by_the_rust(text);
+    agree(outcome == by_the_copy(text), || format!("the copy differs on:\n{text}"))?;
+    Ok(outcome.within(record_bytes))
+}
+
+/// The sheets of a file: each is a line `sheet N`, then N bytes and a line feed.
+pub fn parse(mut file: &[u8]) -> Judged<Vec<&[u8]>> {
+    let mut sheets = vec![];
+    while !file.is_empty() {
+        let (sheet, rest) =
+            first(file).ok_or_else(|| Fault(format!("sheet {} is not whole", sheets.len())))?;
+        sheets.push(sheet);
+        file = rest;
+    }
+    Ok(sheets)
+}
+
+/// The first sheet of a file, and the rest.
+fn first(file: &[u8]) -> Option<(&[u8], &[u8])> {
+    let end = file.iter().position(|byte| *byte == b'\n')?;
+    let head = std::str::from_utf8(&file[..end]).ok()?;
+    let length: usize = head.strip_prefix("sheet ")?.parse().ok()?;
+    let rest = &file[end + 1..];
+    let (sheet, rest) = rest.split_at_checked(length)?;
+    Some((sheet, rest.strip_prefix(b"\n")?))
+}
