@@ -11,3 +11,4 @@ pub mod LineLaws
 pub mod RectLaws
 pub mod TransposeLaws
 pub mod Clearing
+pub mod Copying

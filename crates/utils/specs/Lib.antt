@@ -1,0 +1,4 @@
+pub mod Commas
+pub mod Emphasis
+pub mod Split
+pub mod Found
