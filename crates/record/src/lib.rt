@@ -12,6 +12,7 @@ ghost use Rattle.record.specs.Written.{begunOf, headed, withTexts};
 
 // A slot's kinds in a work slice.
 pub const ABSENT: u32 = 0;
+
 pub const PART: u32 = 1;
 
 // The numbers of a record's header.
@@ -56,18 +57,6 @@ fn put_words(out: &mut [u8], at: usize, ws: &[u32])
     while i < ws.len() {
         put_word(out, at + 4 * i, ws[i]);
         i += 1;
-    }
-}
-
-// The bytes of a text, from index at on.
-pub fn put_bytes(out: &mut [u8], at: usize, text: &[u8])
-    requires { ⌜ at + length (now text) ≤ length (now out) ⌝ }
-    ensures { λ _. ⌜ now (out .exit) ≡ put (now (out .entry)) at (now (text .entry)) ⌝ }
-{
-    let mut j = 0;
-    while j < text.len() {
-        out[at + j] = text[j];
-        j += 1;
     }
 }
 
@@ -117,7 +106,7 @@ pub fn put_text(out: &mut [u8], slot: usize, offset: usize, text: &[u8]) -> usiz
     let at = 40 + 8 * slot;
     put_word(out, at, offset as u32);
     put_word(out, at + 4, text.len() as u32);
-    put_bytes(out, offset, text);
+    lists::put_bytes(out, offset, text);
     offset + text.len()
 }
 
@@ -137,7 +126,14 @@ fn wide(x: u32) -> usize
 }
 
 // A slot of the work slice that is absent or a part of the texts; the offset behind its text.
-fn put_part(out: &mut [u8], slots: &[u32], count: usize, texts: &[u8], slot: usize, offset: usize) -> usize
+fn put_part(
+    out: &mut [u8],
+    slots: &[u32],
+    count: usize,
+    texts: &[u8],
+    slot: usize,
+    offset: usize,
+) -> usize
     requires { ⌜ Parts (now texts) (now slots) count × ((slot < count) × (kindAt (now slots) slot ≤ 1)) ⌝ }
     requires { ⌜ Fits (textAt (now texts) (now slots) slot ∷ []) count slot offset (length (now out)) ⌝ }
     ensures { λ r. ⌜ r ≡ offset + length (bytesOf (textAt (now (texts .entry)) (now (slots .entry)) slot)) ⌝ }
@@ -153,7 +149,13 @@ fn put_part(out: &mut [u8], slots: &[u32], count: usize, texts: &[u8], slot: usi
 }
 
 // The slots from one on, of so many, up to the first whose bytes the caller hands over; with their texts.
-pub fn put_parts(out: &mut [u8], slots: &[u32], count: usize, texts: &[u8], from: Reached) -> Reached
+pub fn put_parts(
+    out: &mut [u8],
+    slots: &[u32],
+    count: usize,
+    texts: &[u8],
+    from: Reached,
+) -> Reached
     requires { ⌜ Parts (now texts) (now slots) count ⌝ }
     requires { ⌜ Fits (plainTexts (now texts) (now slots) (from .slot) count) count (from .slot) (from .offset) (length (now out)) ⌝ }
     ensures { λ r. ⌜ (r .slot ≡ from .slot + plainSlots (now (slots .entry)) (from .slot) (count - from .slot)) × (r .offset ≡ from .offset + length (packed (plainTexts (now (texts .entry)) (now (slots .entry)) (from .slot) count))) ⌝ }

@@ -58,4 +58,3 @@ module _ (s : List ℕ) (from to : ℕ) (h : from < to) (k : to ≤ length s) wh
 pub end-none : (s : List ℕ) (from to : ℕ) → to ≤ from → trimEnd (take (to - from) (drop from s)) ≡ take (to - from) (drop from s)
 unfolding trimEnd
 end-none s from to h = let e : to - from ≡ 0 = omega arith in rw e
-

@@ -145,7 +145,16 @@ pub fn white_space(c: u32) -> bool
     ensures { λ r. ⌜ r ≡ white c ⌝ }
 {
     match c {
-        0x09..=0x0D | 0x20 | 0x85 | 0xA0 | 0x1680 | 0x2000..=0x200A | 0x2028..=0x2029 | 0x202F | 0x205F | 0x3000 => true,
+        0x09..=0x0D
+        | 0x20
+        | 0x85
+        | 0xA0
+        | 0x1680
+        | 0x2000..=0x200A
+        | 0x2028..=0x2029
+        | 0x202F
+        | 0x205F
+        | 0x3000 => true,
         _ => false,
     }
 }
@@ -246,16 +255,21 @@ pub fn trim_utf8(s: &[u8]) -> Part
         match d {
             Decoded::Char(c, n) => {
                 p += n;
-                if white_space(c) {
-                } else {
+                if white_space(c) {} else {
                     to = p;
                 }
             }
             Decoded::IllFormed => {
-                return Part { from: 0, to: s.len() };
+                return Part {
+                    from: 0,
+                    to: s.len(),
+                };
             }
             Decoded::End => {
-                return Part { from: 0, to: s.len() };
+                return Part {
+                    from: 0,
+                    to: s.len(),
+                };
             }
         }
     }
@@ -325,24 +339,39 @@ fn line_rest(s: &[u8], from: usize) -> Rest
             Decoded::Char(c, n) => {
                 p += n;
                 if c == 10 {
-                    return Rest { count, last, next: p };
+                    return Rest {
+                        count,
+                        last,
+                        next: p,
+                    };
                 }
                 k += 1;
-                if white_space(c) {
-                } else {
+                if white_space(c) {} else {
                     count = k;
                     last = c;
                 }
             }
             Decoded::IllFormed => {
-                return Rest { count, last, next: s.len() };
+                return Rest {
+                    count,
+                    last,
+                    next: s.len(),
+                };
             }
             Decoded::End => {
-                return Rest { count, last, next: s.len() };
+                return Rest {
+                    count,
+                    last,
+                    next: s.len(),
+                };
             }
         }
     }
-    Rest { count, last, next: p }
+    Rest {
+        count,
+        last,
+        next: p,
+    }
 }
 
 // A line: where its trimmed text starts, how many code points that has, the last of them, and where the next line starts.

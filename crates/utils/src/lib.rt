@@ -76,7 +76,11 @@ fn strip_end(p: &[u8], from: usize, e: &[u8]) -> usize
 fn is_marked(p: &[u8], e: &[u8]) -> bool
     ensures { λ r. ⌜ r ≡ (startsWith (now (e .entry)) (now (p .entry)) && endsWith (now (e .entry)) (now (p .entry))) ⌝ }
 {
-    if starts_at(p, 0, e) { ends_with(p, e) } else { false }
+    if starts_at(p, 0, e) {
+        ends_with(p, e)
+    } else {
+        false
+    }
 }
 
 // Whether a part stands in emphasis, and where in it its bare text stands.
@@ -93,7 +97,11 @@ fn bare(p: &[u8], e: &[u8]) -> Mark
 {
     let from = strip_start(p, e);
     let to = strip_end(p, from, e);
-    Mark { hit: true, from, to }
+    Mark {
+        hit: true,
+        from,
+        to,
+    }
 }
 
 // The part p without the first mark that it begins and ends with.
@@ -115,7 +123,11 @@ fn mark_of(p: &[u8]) -> Mark
     if is_marked(p, b"`") {
         return bare(p, b"`");
     }
-    Mark { hit: false, from: 0, to: 0 }
+    Mark {
+        hit: false,
+        from: 0,
+        to: 0,
+    }
 }
 
 // The index of the first comma from `at` on, or the end.
@@ -153,14 +165,32 @@ fn first_marked(s: &[u8]) -> Found
         let to = t.to;
         let m = mark_of(&s[from..to]);
         if m.hit {
-            return Found { hit: true, from, to, a: from + m.from, b: from + m.to };
+            return Found {
+                hit: true,
+                from,
+                to,
+                a: from + m.from,
+                b: from + m.to,
+            };
         }
         if end == s.len() {
-            return Found { hit: false, from: 0, to: 0, a: 0, b: 0 };
+            return Found {
+                hit: false,
+                from: 0,
+                to: 0,
+                a: 0,
+                b: 0,
+            };
         }
         at = end + 1;
     }
-    Found { hit: false, from: 0, to: 0, a: 0, b: 0 }
+    Found {
+        hit: false,
+        from: 0,
+        to: 0,
+        a: 0,
+        b: 0,
+    }
 }
 
 // How many bytes the text has with q for every p.

@@ -1,0 +1,4 @@
+pub mod Walk
+pub mod Frame
+pub mod Kinds
+pub mod Line
