@@ -3,13 +3,15 @@ use mathlib.Core.Path.{_≡_, refl, sym, subst}
 use mathlib.Core.Bool.{Bool, true, false, _&&_, _||_, or-true}
 use mathlib.Core.List.{List, [], _∷_}
 use mathlib.Core.Logic.{_⊎_, inl, inr, ⊎-elim}
-use Prim.Native.Nat.{ℕ, zero, suc, _+_, _<_}
+use Prim.Native.Nat.{ℕ, zero, suc, _+_, _<_, _≤_}
 use native.Mathlib.Nat.{le-of-suc-le-suc, eq-or-lt-of-le}
 use native.Mathlib.Numerals.{add-one}
 use native.Mathlib.Omega.{arith}
 use lib.Dec.{T, eqb, eqb→eq}
 use types.Run.{OneOf}
-use borrow.Author.Tests.{ne-eqb}
+use lib.ListN.{length, getD, drop, drop-of-length-le}
+use lib.Seq.{drop-cons}
+use borrow.Author.Tests.{eq-eqb, ne-eqb}
 use Rattle.lists.specs.OneOf.{oneOf, anyAt}
 
 -- f holds at every key
@@ -67,3 +69,17 @@ pub any-ext : (f g : ℕ → Bool) (n : ℕ) → ((k : ℕ) → k < n → f k �
 unfolding anyAt
 any-ext f g zero h = refl
 any-ext f g (suc n) h = rw (h n (omega arith), any-ext f g n (λ k l. h k (omega arith)))
+
+-- a search through the codes has come to i
+module _ (c : ℕ) (ks : List ℕ) (i : ℕ) where
+  pub one-hit : i < length ks → c ≡ getD ks i 0 → oneOf c (drop i ks) ≡ true
+  unfolding oneOf
+  one-hit h e = rw (drop-cons ks i 0, eq-eqb c (getD ks i 0) e)
+
+  pub one-miss : i < length ks → (c ≡ getD ks i 0 → ⊥) → oneOf c (drop (i + 1) ks) ≡ oneOf c (drop i ks)
+  unfolding oneOf
+  one-miss h e = rw (add-one, drop-cons ks i 0, ne-eqb c (getD ks i 0) e)
+
+  pub one-end : length ks ≤ i → oneOf c (drop i ks) ≡ false
+  unfolding oneOf
+  one-end h = rw (drop-of-length-le ks h)

@@ -1,3 +1,4 @@
+pub mod Limits
 pub mod Box
 pub mod Geometry
 pub mod Policies

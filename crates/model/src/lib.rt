@@ -10,6 +10,7 @@ ghost use Rattle.model.specs.Refusals.{numbers};
 ghost use Rattle.model.specs.RuleNumbers.{numberOf, numberFound, unsigned};
 
 pub mod box_drawing;
+pub mod limits;
 
 // A place on a canvas: column x of row y.
 pub struct Point {

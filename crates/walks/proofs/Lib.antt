@@ -1,1 +1,5 @@
 -- Laws of walks and frames.
+pub mod WalkLaws
+pub mod LineLaws
+pub mod FrameLaws
+pub mod Examples

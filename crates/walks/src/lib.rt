@@ -1,13 +1,17 @@
 // Walks along the rows and columns of a layer, and the frames that they find.
+pub mod corners;
+
+use corners::*;
 use model::Rect;
 use model::Refusal;
 use model::box_drawing::*;
 ghost use mathlib.Core.Path.{_≡_};
+ghost use Prim.Native.Nat.{_+_, _<_, _^_};
 ghost use lib.ListN.{length, getD};
 ghost use Rattle.lists.specs.OneOf.{oneOf};
 ghost use Rattle.lists.specs.Picture.{canvas};
 ghost use Rattle.walks.specs.Walk.{walkOf, goOf, stepsIn};
-ghost use Rattle.walks.specs.Frame.{Place, frameOf, framedIn};
+ghost use Rattle.walks.specs.Frame.{Place, closeOf, frameOf, framedIn};
 ghost use Rattle.walks.specs.Kinds.{thin, grid, name};
 ghost use Rattle.walks.specs.Line.{lineOf, Reach, nextOf, NextFits};
 
@@ -88,34 +92,52 @@ fn walk_line(
     Walked::Stopped(Refusal::CharactersNotFound(first(searched)))
 }
 
-// Walks from column x of row y of a canvas over allowed characters to a searched one.
+// Walks from column x of row y of w columns and h rows, over allowed characters to a searched one.
 pub fn go(
     d: Direction,
     layer: &[u32],
-    width: usize,
-    rows: usize,
+    w: usize,
+    h: usize,
     x: usize,
     y: usize,
     searched: &[u32],
     allowed: &[u32],
 ) -> Walked
-    requires { ⌜ Place width rows x y (length (now layer)) ⌝ }
-    ensures { λ r. ⌜ stepsIn r ≡ goOf d (canvas width rows (now (layer .entry))) width rows x y (now (searched .entry)) (now (allowed .entry)) ⌝ }
+    requires { ⌜ Place w h x y (length (now layer)) ⌝ }
+    ensures { λ r. ⌜ stepsIn r ≡ goOf d (canvas w h (now (layer .entry))) w h x y (now (searched .entry)) (now (allowed .entry)) ⌝ }
 {
-    let at = y * width + x;
+    let at = y * w + x;
     match d {
-        Direction::Right => walk_line(layer, false, at, 1, width - 1 - x, searched, allowed),
-        Direction::Down => walk_line(layer, false, at, width, rows - 1 - y, searched, allowed),
+        Direction::Right => walk_line(layer, false, at, 1, w - 1 - x, searched, allowed),
+        Direction::Down => walk_line(layer, false, at, w, h - 1 - y, searched, allowed),
         Direction::Left => walk_line(layer, true, at, 1, x, searched, allowed),
-        Direction::Up => walk_line(layer, true, at, width, y, searched, allowed),
+        Direction::Up => walk_line(layer, true, at, w, y, searched, allowed),
     }
 }
 
-// The frame that starts in column x of row y, by the characters of its corners and sides.
+// The four walks of a frame ended in column cx of row cy; its bottom right corner is in column bx of row by.
+fn close(x: usize, y: usize, cx: usize, cy: usize, bx: usize, by: usize) -> Framed
+    requires { ⌜ (bx + 1 < 2 ^ 64) × (by + 1 < 2 ^ 64) ⌝ }
+    ensures { λ r. ⌜ framedIn r ≡ closeOf x y cx cy bx by ⌝ }
+{
+    if cx == x {
+        if cy == y {
+            return Framed::Closed(Rect {
+                left: x,
+                top: y,
+                right: bx + 1,
+                bottom: by + 1,
+            });
+        }
+    }
+    Framed::NotFramed(Refusal::RectangleNotClosed(cx, cy))
+}
+
+// The frame that starts in column x of row y of w columns and h rows, by the characters of its corners and sides.
 fn frame(
     layer: &[u32],
-    width: usize,
-    rows: usize,
+    w: usize,
+    h: usize,
     x: usize,
     y: usize,
     top_right: &[u32],
@@ -127,65 +149,101 @@ fn frame(
     top_left: &[u32],
     left: &[u32],
 ) -> Framed
-    requires { ⌜ Place width rows x y (length (now layer)) ⌝ }
-    ensures { λ r. ⌜ framedIn r ≡ frameOf (record { topRight = now («top_right» .entry); top = now (top .entry); bottomRight = now («bottom_right» .entry); right = now (right .entry); bottomLeft = now («bottom_left» .entry); bottom = now (bottom .entry); topLeft = now («top_left» .entry); left = now (left .entry) }) (canvas width rows (now (layer .entry))) width rows x y ⌝ }
+    requires { ⌜ Place w h x y (length (now layer)) ⌝ }
+    ensures { λ r. ⌜ framedIn r ≡ frameOf (record { topRight = now («top_right» .entry); top = now (top .entry); bottomRight = now («bottom_right» .entry); right = now (right .entry); bottomLeft = now («bottom_left» .entry); bottom = now (bottom .entry); topLeft = now («top_left» .entry); left = now (left .entry) }) (canvas w h (now (layer .entry))) w h x y ⌝ }
 {
-    let a = match go(Direction::Right, layer, width, rows, x, y, top_right, top) {
+    let a = match go(Direction::Right, layer, w, h, x, y, top_right, top) {
         Walked::Steps(k) => k,
-        Walked::Stopped(r) => {
-            return Framed::NotFramed(r);
-        }
+        Walked::Stopped(r) => return Framed::NotFramed(r),
     };
     let bx = x + a;
-    let b = match go(
-        Direction::Down,
-        layer,
-        width,
-        rows,
-        bx,
-        y,
-        bottom_right,
-        right,
-    ) {
+    let b = match go(Direction::Down, layer, w, h, bx, y, bottom_right, right) {
         Walked::Steps(k) => k,
-        Walked::Stopped(r) => {
-            return Framed::NotFramed(r);
-        }
+        Walked::Stopped(r) => return Framed::NotFramed(r),
     };
     let by = y + b;
-    let c = match go(
-        Direction::Left,
-        layer,
-        width,
-        rows,
-        bx,
-        by,
-        bottom_left,
-        bottom,
-    ) {
+    let c = match go(Direction::Left, layer, w, h, bx, by, bottom_left, bottom) {
         Walked::Steps(k) => k,
-        Walked::Stopped(r) => {
-            return Framed::NotFramed(r);
-        }
+        Walked::Stopped(r) => return Framed::NotFramed(r),
     };
     let cx = bx - c;
-    let d = match go(Direction::Up, layer, width, rows, cx, by, top_left, left) {
+    let d = match go(Direction::Up, layer, w, h, cx, by, top_left, left) {
         Walked::Steps(k) => k,
-        Walked::Stopped(r) => {
-            return Framed::NotFramed(r);
-        }
+        Walked::Stopped(r) => return Framed::NotFramed(r),
     };
-    let cy = by - d;
-    if cx != x {
-        return Framed::NotFramed(Refusal::RectangleNotClosed(cx, cy));
-    }
-    if cy != y {
-        return Framed::NotFramed(Refusal::RectangleNotClosed(cx, cy));
-    }
-    Framed::Closed(Rect {
-        left: x,
-        top: y,
-        right: bx + 1,
-        bottom: by + 1,
-    })
+    close(x, y, cx, by - d, bx, by)
+}
+
+// The region that starts in column x of row y of THIN.
+pub fn recognize_region(layer: &[u32], w: usize, h: usize, x: usize, y: usize) -> Framed
+    requires { ⌜ Place w h x y (length (now layer)) ⌝ }
+    ensures { λ r. ⌜ framedIn r ≡ frameOf thin (canvas w h (now (layer .entry))) w h x y ⌝ }
+{
+    frame(
+        layer,
+        w,
+        h,
+        x,
+        y,
+        &CORNERS_TOP_RIGHT,
+        &[LIGHT_HORIZONTAL, LIGHT_UP_AND_HORIZONTAL],
+        &CORNERS_BOTTOM_RIGHT,
+        &[LIGHT_VERTICAL, LIGHT_VERTICAL_AND_RIGHT],
+        &CORNERS_BOTTOM_LEFT,
+        &[LIGHT_HORIZONTAL, LIGHT_DOWN_AND_HORIZONTAL],
+        &CORNERS_TOP_LEFT,
+        &[LIGHT_VERTICAL, LIGHT_VERTICAL_AND_LEFT],
+    )
+}
+
+// The cell of the plane that starts in column x of row y of GRID.
+pub fn recognize_rectangle(layer: &[u32], w: usize, h: usize, x: usize, y: usize) -> Framed
+    requires { ⌜ Place w h x y (length (now layer)) ⌝ }
+    ensures { λ r. ⌜ framedIn r ≡ frameOf grid (canvas w h (now (layer .entry))) w h x y ⌝ }
+{
+    frame(
+        layer,
+        w,
+        h,
+        x,
+        y,
+        &GRID_TOP_RIGHT,
+        &[LIGHT_HORIZONTAL],
+        &GRID_BOTTOM_RIGHT,
+        &[LIGHT_VERTICAL],
+        &GRID_BOTTOM_LEFT,
+        &[LIGHT_HORIZONTAL],
+        &GRID_TOP_LEFT,
+        &[LIGHT_VERTICAL],
+    )
+}
+
+// The box of the name, which starts in the top left corner of TEXT.
+pub fn recognize_name(layer: &[u32], w: usize, h: usize) -> Framed
+    requires { ⌜ Place w h 0 0 (length (now layer)) ⌝ }
+    ensures { λ r. ⌜ framedIn r ≡ frameOf name (canvas w h (now (layer .entry))) w h 0 0 ⌝ }
+{
+    frame(
+        layer,
+        w,
+        h,
+        0,
+        0,
+        &[LIGHT_DOWN_AND_LEFT],
+        &[LIGHT_HORIZONTAL],
+        &[
+            LIGHT_UP_AND_HORIZONTAL,
+            LIGHT_VERTICAL_AND_LEFT,
+            LIGHT_VERTICAL_AND_HORIZONTAL,
+        ],
+        &[LIGHT_VERTICAL],
+        &[LIGHT_VERTICAL_AND_RIGHT],
+        &[
+            LIGHT_HORIZONTAL,
+            LIGHT_DOWN_AND_HORIZONTAL,
+            DOWN_DOUBLE_AND_HORIZONTAL_SINGLE,
+        ],
+        &[LIGHT_DOWN_AND_RIGHT],
+        &[LIGHT_VERTICAL],
+    )
 }
