@@ -2,10 +2,10 @@
 use mathlib.Core.List.{List, [], _∷_, _++_}
 use mathlib.Core.Option.{Option, none, some}
 use mathlib.Core.Path.{_≡_}
-use Prim.Native.Nat.{ℕ, zero, suc, _+_, _-_, _≤_}
+use Prim.Native.Nat.{ℕ, zero, suc, _-_, _≤_}
 use lib.Dec.{ltb}
 use lib.ListN.{length, take, drop}
-use Rattle.lists.specs.Answer.{Answer, ok, refused}
+use Rattle.lists.specs.Answer.{ok, refused}
 use Rattle.lists.specs.Choose.{choose}
 use Rattle.lists.specs.Put.{put}
 use Rattle.model.specs.Refusals.{Reading}

@@ -2,12 +2,10 @@
 use model::Refusal;
 use unicode::Checked;
 ghost use mathlib.Core.Bool.{_&&_};
-ghost use mathlib.Core.List.{[], _∷_};
 ghost use mathlib.Core.Path.{_≡_};
 ghost use Prim.Native.Nat.{_-_, _+_, _≤_, _<_};
 ghost use lib.ListN.{length, take, drop};
 ghost use Rattle.lists.specs.Put.{put};
-ghost use Rattle.unicode.specs.Trim.{PartIn};
 ghost use Rattle.utils.specs.Emphasis.{startsWith, endsWith, stripStart, stripEnd, strip, marks, emphasised, marked};
 ghost use Rattle.utils.specs.Split.{replaceAll, splitOf, scratchOf, answered, Places, allowedIn};
 ghost use Rattle.utils.specs.Found.{PartEnd, MarkOf, FoundIn};

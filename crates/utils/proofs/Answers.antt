@@ -1,0 +1,111 @@
+-- The answers of the value split, and what they say of the values of the text.
+use mathlib.Core.Path.{_≡_, refl, sym, ap, _∙_}
+use mathlib.Core.Bool.{Bool, true, false}
+use mathlib.Core.List.{List}
+use mathlib.Core.Option.{none, some}
+use Prim.Native.Nat.{ℕ, _-_, _≤_, _<_}
+use native.Mathlib.Omega.{arith}
+use borrow.Author.Tests.{lt-ltb, le-ltb}
+use lib.Dec.{ltb}
+use lib.ListN.{length, take, drop}
+use lib.Seq.{take-at}
+use Rattle.lists.specs.Answer.{ok, refused}
+use Rattle.lists.specs.Put.{put}
+use Rattle.lists.proofs.AnswerLaws.{refused-ok}
+use Rattle.lists.proofs.PutLaws.{put-front, length-put}
+use Rattle.lists.proofs.Tests.{by-flag}
+use Rattle.model.specs.declared.Refusal.the-variants.{InvalidUtf8, OutputSliceShort}
+use Rattle.unicode.specs.Utf8.{checked}
+use Rattle.unicode.specs.declared.Checked.{Checked}
+use Rattle.unicode.specs.declared.Checked.the-variants.{Valid, Invalid}
+use Rattle.utils.specs.Commas.{parts}
+use Rattle.utils.specs.Emphasis.{Choice, plain, marked}
+use Rattle.utils.specs.Found.{FoundIn}
+use Rattle.utils.specs.Split.{replaceAll, Values, choiceOf, valuesBy, valuesOf, splitBy, onText, splitOf, scratchOf, answered, Places}
+use Rattle.utils.specs.declared.Split.{Split}
+use Rattle.utils.specs.declared.Split.the-variants.{Own, Rewritten, NotSplit}
+use Rattle.utils.proofs.Finding.{between, Sized, first-sized}
+use Rattle.utils.proofs.Replacing.{replace-length}
+
+-- what `split_values` promises of its answer r, where the slice d has become o
+abbrev pub Promised : Split → List ℕ → List ℕ → List ℕ → Type 0
+Promised r t d o = (answered r t o ≡ splitOf t (length d)) × (Places r t o × (o ≡ scratchOf t d))
+
+pub answer-invalid : (t d : List ℕ) {at : ℕ} → checked t ≡ Invalid at → Promised (NotSplit (InvalidUtf8 at)) t d d
+unfolding splitOf scratchOf
+answer-invalid t d e = (rw e, (tt, rw e))
+
+module _ {t : List ℕ} {from to a b : ℕ} {hit : Bool} (i : FoundIn t hit from to a b) where
+  none-chosen : hit ≡ false → choiceOf t ≡ plain
+  none-chosen h = i .choice ∙ rw h
+
+  chosen : hit ≡ true → choiceOf t ≡ marked a (between t from to) (between t a b)
+  chosen h = i .choice ∙ rw h
+
+  -- the part is not empty, and its bare text is at most as long
+  pub part-sizes : hit ≡ true → (0 < length (between t from to)) × (length (between t a b) ≤ length (between t from to))
+  part-sizes h = rw (chosen h) at (first-sized 0 (parts t))
+
+  module _ (d : List ℕ) (v : checked t ≡ Valid) where
+    pub answer-own : hit ≡ false → Promised Own t d d
+    unfolding splitOf scratchOf
+    answer-own h = (rw (v, none-chosen h), (tt, rw (v, none-chosen h)))
+
+    module _ (h : hit ≡ true) {n : ℕ} (e : n ≡ length (replaceAll 0 (between t from to) (between t a b) t)) where
+      pub answer-short : length d < n → Promised (NotSplit (OutputSliceShort n)) t d d
+      unfolding splitOf scratchOf
+      answer-short l =
+          let z : ltb (length d) (length (replaceAll 0 (between t from to) (between t a b) t)) ≡ true = lt-ltb _ _ (rw e at l) in
+          (rw (v, chosen h, z, e), (tt, rw (v, chosen h, z)))
+
+      pub answer-rewritten : {o : List ℕ} → n ≤ length d → o ≡ put d 0 (replaceAll 0 (between t from to) (between t a b) t) → Promised (Rewritten n a b) t d o
+      unfolding splitOf scratchOf
+      answer-rewritten {o} l u =
+          let z : ltb (length d) (length (replaceAll 0 (between t from to) (between t a b) t)) ≡ false = le-ltb _ _ (rw e at l) in
+          let w : take n o ≡ replaceAll 0 (between t from to) (between t a b) t =
+          ap (take n) (u ∙ put-front d _ n (sym e)) ∙ take-at _ (drop n d) n (sym e) in
+          let m : length o ≡ length d = ap length u ∙ length-put d 0 _ (omega arith) in
+          let places : Places (Rewritten n a b) t o = (omega arith, (rw (chosen h), (i .ordered, omega (arith, i .high, i .inside)))) in
+          (rw (v, chosen h, z, w), (places, u ∙ rw (v, chosen h, z)))
+
+-- a split that is not refused gives the values of the text
+pub split-ok : (t : List ℕ) (room : ℕ) (v : Values) → splitOf t room ≡ ok v → (checked t ≡ Valid) × (v ≡ valuesOf t)
+unfolding splitOf valuesOf
+split-ok t room v e = go (checked t) refl e
+  where
+    by-choice : (c : Choice) → splitBy c t room ≡ ok v → v ≡ valuesBy c t
+    by-choice plain e = cc
+    by-choice (marked place part bare) e =
+        by-flag (ltb room (length (replaceAll 0 part bare t))) (λ y. refused-ok (rw y at e)) (λ z. let f = rw z at e in cc)
+
+    go : (k : Checked) → checked t ≡ k → onText k (λ at. refused (InvalidUtf8 at)) (splitBy (choiceOf t) t room) ≡ ok v → (checked t ≡ Valid) × (v ≡ valuesBy (choiceOf t) t)
+    go Valid f e = (f, by-choice (choiceOf t) e)
+    go (Invalid at) f e = refused-ok e
+
+-- the allowed values and the default that an answer names
+module _ (t d : List ℕ) (room : ℕ) where
+  pub values-own : answered Own t d ≡ splitOf t room → (t ≡ valuesOf t .allowed) × (none ≡ valuesOf t .default)
+  values-own e = let v = split-ok t room _ (sym e) .1 in (ap (λ (x : Values). x .allowed) v, ap (λ (x : Values). x .default) v)
+
+  pub values-allowed : (n from to : ℕ) → answered (Rewritten n from to) t d ≡ splitOf t room
+      → (take n d ≡ valuesOf t .allowed) × (some (take (to - from) (drop from t)) ≡ valuesOf t .default)
+  values-allowed n from to e =
+      let v = split-ok t room _ (sym e) .1 in
+      (ap (λ (x : Values). x .allowed) v, ap (λ (x : Values). x .default) v)
+
+-- the allowed values are no longer than the text, so a slice of its length has room for them
+pub split-length : (t : List ℕ) → length (valuesOf t .allowed) ≤ length t
+unfolding valuesOf
+split-length t = go (choiceOf t) (first-sized 0 (parts t))
+  where
+    go : (c : Choice) → Sized c → length (valuesBy c t .allowed) ≤ length t
+    go plain h = omega arith
+    go (marked place part bare) h = replace-length part bare (h .0) (h .1) t
+
+pub split-room : (t : List ℕ) (room : ℕ) → checked t ≡ Valid → length t ≤ room → splitOf t room ≡ ok (valuesOf t)
+unfolding splitOf valuesOf
+split-room t room v h = rw v (go (choiceOf t) (split-length t))
+  where
+    go : (c : Choice) → length (valuesBy c t .allowed) ≤ length t → splitBy c t room ≡ ok (valuesBy c t)
+    go plain l = refl
+    go (marked place part bare) l = rw (le-ltb room (length (replaceAll 0 part bare t)) (omega arith))

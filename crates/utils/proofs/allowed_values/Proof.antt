@@ -1,0 +1,30 @@
+-- `utils::allowed_values` meets its contract.
+use borrow.Author.Needs.{needs}
+use Rattle.utils.proofs.allowed_values.Statement.{statement}
+use Rattle.utils.proofs.allowed_values.Tie as tie
+
+enum-told : tie.Need-enum-told
+enum-told c = search needs
+
+enum-known-s : tie.Need-enum-known-s
+enum-known-s c = search needs
+
+front-requires : tie.Need-front-requires
+front-requires c κs = search needs
+
+enum-told-2 : tie.Need-enum-told-2
+enum-told-2 c = search needs
+
+returns : tie.Need-returns
+returns c = search needs
+
+returns-2 : tie.Need-returns-2
+returns-2 c = rw (c .before .before .s .given .1) (c .front .ensures)
+
+returns-3 : tie.Need-returns-3
+returns-3 c = search needs
+
+pub allowed-values-spec : {M : Type 1} → statement M
+allowed-values-spec =
+    tie.close
+    (tie.spec enum-told enum-known-s front-requires enum-told-2 returns returns-2 returns-3)
