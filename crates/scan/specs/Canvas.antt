@@ -1,0 +1,50 @@
+-- What scanning a sheet answers, and what it leaves in the TEXT layer.
+use mathlib.Core.Bool.{Bool, _&&_}
+use mathlib.Core.List.{List}
+use mathlib.Core.Path.{_≡_}
+use Prim.Native.Nat.{ℕ, _≤_}
+use lib.Dec.{leb}
+use lib.ListN.{length, drop}
+use Rattle.lists.specs.Answer.{ok, refused}
+use Rattle.lists.specs.Choose.{choose}
+use Rattle.lists.specs.Put.{put}
+use Rattle.model.specs.Limits.{canvasRows, canvasColumns}
+use Rattle.model.specs.Refusals.{Reading}
+use Rattle.model.specs.declared.Refusal.the-variants.{CanvasTooLarge}
+use Rattle.unicode.specs.Utf8.{codes}
+use Rattle.scan.specs.Rows.{rows, widest, flat}
+use Rattle.scan.specs.Sheet.{restOf}
+use Rattle.scan.specs.declared.Scanned.{Scanned}
+use Rattle.scan.specs.declared.Scanned.the-variants.{Canvas, NotScanned}
+
+-- the size of a canvas
+pub record Size : Type 0 where
+  pub height : ℕ
+  pub width : ℕ
+
+-- a canvas fits: at most 96 rows of 160 characters
+abbrev pub fits : List (List ℕ) → Bool
+fits rs = leb (length rs) canvasRows && leb (widest rs) canvasColumns
+
+-- the size of the canvas of some rows; number 2 with the full counts where it is too large
+unfoldable pub sizeOf : List (List ℕ) → Reading Size
+sizeOf rs =
+    choose (fits rs) (ok (record { height = length rs; width = widest rs })) (refused (CanvasTooLarge (length rs) (widest rs)))
+
+-- the layer d afterwards: the rows, each filled to the longest, where the canvas fits; else as it was
+unfoldable pub textIn : List (List ℕ) → List ℕ → List ℕ
+textIn rs d = choose (fits rs) (put d 0 (flat (widest rs) rs)) d
+
+-- the rows of the sheet in the bytes from an index on
+abbrev pub rowsAt : List ℕ → ℕ → List (List ℕ)
+rowsAt s at = rows (codes (drop at s))
+
+-- an answer's size
+abbrev pub scannedIn : Scanned → Reading Size
+scannedIn (Canvas height width end) = ok (record { height = height; width = width })
+scannedIn (NotScanned r) = refused r
+
+-- an answer's end: the bytes from there on are those behind the sheet
+abbrev pub Ended : Scanned → List ℕ → ℕ → Type 0
+Ended (Canvas height width end) s at = (end ≤ length s) × (codes (drop end s) ≡ restOf (codes (drop at s)))
+Ended (NotScanned r) s at = Unit {0}

@@ -1,0 +1,4 @@
+pub mod Rows
+pub mod Canvas
+pub mod Sheet
+pub mod Found
