@@ -7,6 +7,7 @@ pub mod PutLaws
 pub mod TurnsLaws
 pub mod OneOfLaws
 pub mod PictureLaws
+pub mod PlaceLaws
 pub mod LineLaws
 pub mod RectLaws
 pub mod TransposeLaws

@@ -1,7 +1,7 @@
 -- A layer as a picture: the character in column x of row y.
 use mathlib.Core.Bool.{Bool, true, false, _&&_}
 use mathlib.Core.List.{List}
-use Prim.Native.Nat.{ℕ, _+_, _*_}
+use Prim.Native.Nat.{ℕ, _+_, _*_, _/_, _%_}
 use lib.Dec.{leb, ltb}
 use lib.ListN.{getD}
 use Rattle.lists.specs.Choose.{choose}
@@ -21,6 +21,10 @@ within w h G x y = choose (ltb x w && ltb y h) (G x y) 0
 -- the canvas of w columns and h rows that a list begins with
 abbrev pub canvas : ℕ → ℕ → List ℕ → Picture
 canvas w h s = within w h (pic w s)
+
+-- in row order place i of w columns is column i % w of row i / w
+abbrev pub at : Picture → ℕ → ℕ → ℕ
+at p w i = p (i % w) (i / w)
 
 -- column x and row y lie in the rect; right and bottom are exclusive
 unfoldable pub inRect : ℕ → ℕ → ℕ → ℕ → ℕ → ℕ → Bool

@@ -1,0 +1,44 @@
+-- A line carried across, as a law of a line: where it holds a character of its stroke every place is carried, else it stays.
+use mathlib.Core.Path.{_≡_}
+use mathlib.Core.Bool.{Bool, true, false}
+use mathlib.Core.List.{List}
+use Prim.Native.Nat.{ℕ, _<_}
+use lib.Dec.{eqb}
+use lib.ListN.{getD}
+use Rattle.lists.specs.Line.{storeAt}
+use Rattle.lists.specs.OneOf.{anyAt}
+use Rattle.lists.specs.Turns.{turns}
+use Rattle.lists.proofs.LineLaws.{LineLaw, stores-length, stores-off, stores-on}
+use Rattle.lists.proofs.OneOfLaws.{any-ext}
+use Rattle.lists.proofs.Tests.{by-flag}
+use Rattle.layers.specs.Grid.{carriedCode, carriedAt}
+use Rattle.layers.specs.Passes.{lineCarried}
+use Rattle.layers.specs.declared.Stroke.{Stroke}
+
+-- a line's characters decide what becomes of it
+pub carried-ext : (d : Stroke) (off n : ℕ) (g h : ℕ → ℕ) → ((k : ℕ) → k < n → g k ≡ h k) → (k : ℕ) → k < n → carriedAt d off n g k ≡ carriedAt d off n h k
+carried-ext d off n g h e k l = rw (any-ext (λ i. eqb (g i) (d .line)) (λ i. eqb (h i) (d .line)) n (λ i a. rw (e i a)), e k l)
+
+module _ (d : Stroke) (off : ℕ) (at : ℕ → ℕ) (n : ℕ) where
+  module _ (s : List ℕ) where
+    -- the line holds a character of its stroke
+    abbrev holds : Bool
+    holds = anyAt (λ k. eqb (getD s (at k) 0) (d .line)) n
+
+    pub line-carried : holds ≡ true → turns (storeAt at (carriedCode d off n)) n s ≡ lineCarried d off at n s
+    unfolding lineCarried
+    line-carried e = rw e
+
+    pub line-stays : holds ≡ false → s ≡ lineCarried d off at n s
+    unfolding lineCarried
+    line-stays e = rw e
+
+  pub line-law : LineLaw (lineCarried d off at n) at n (carriedAt d off n)
+  unfolding lineCarried
+  line-law =
+      record {
+        keeps = λ s. by-flag (holds s) (λ e. rw e (stores-length at (carriedCode d off n) s n)) (λ e. rw e);
+        off = λ s p h. by-flag (holds s) (λ e. rw e (stores-off at (carriedCode d off n) s n p h)) (λ e. rw e);
+        on = λ s inj fit k h. by-flag (holds s) (λ e. rw e (stores-on at (carriedCode d off n) s n inj fit k h)) (λ e. rw e);
+        ext = carried-ext d off n;
+      }

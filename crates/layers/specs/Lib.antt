@@ -1,0 +1,5 @@
+pub mod Thin
+pub mod Body
+pub mod Grid
+pub mod Sizes
+pub mod Passes

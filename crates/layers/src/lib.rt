@@ -1,0 +1,426 @@
+// The layers of a canvas: THIN from TEXT, BODY from THIN, GRID from BODY.
+use model::Rect;
+use model::box_drawing::*;
+ghost use mathlib.Core.List.{_++_};
+ghost use mathlib.Core.Path.{_≡_};
+ghost use Prim.Native.Nat.{ℕ, _+_, _*_, _<_, _≤_, _^_};
+ghost use lib.Dec.{eqb};
+ghost use lib.ListN.{length, getD, set, take, drop};
+ghost use Rattle.lists.specs.Line.{storeAt, placed};
+ghost use Rattle.lists.specs.OneOf.{anyAt};
+ghost use Rattle.lists.specs.Picture.{canvas};
+ghost use Rattle.lists.specs.Turns.{turns};
+ghost use Rattle.layers.specs.Thin.{thinOf, thinLayers, thinPicture};
+ghost use Rattle.layers.specs.Body.{topOf, bodyCode, shadedCode, bodyLayers, bodyPicture, shadedPicture};
+ghost use Rattle.layers.specs.Grid.{carriedCode, carriedLayers, gridPicture};
+ghost use Rattle.layers.specs.Sizes.{LayersOf, BodyIn};
+ghost use Rattle.layers.specs.Passes.{lineCarried, linesCarried};
+
+// THIN's character of TEXT's.
+fn thin_code(t: u32) -> u32
+    ensures { λ r. ⌜ r ≡ thinOf t ⌝ }
+{
+    match t {
+        LIGHT_DOWN_AND_RIGHT => t,
+        LIGHT_DOWN_AND_LEFT => t,
+        LIGHT_UP_AND_RIGHT => t,
+        LIGHT_UP_AND_LEFT => t,
+        LIGHT_DOWN_AND_HORIZONTAL => t,
+        LIGHT_UP_AND_HORIZONTAL => t,
+        LIGHT_HORIZONTAL => t,
+        LIGHT_VERTICAL => t,
+        LIGHT_VERTICAL_AND_RIGHT => t,
+        LIGHT_VERTICAL_AND_HORIZONTAL => t,
+        LIGHT_VERTICAL_AND_LEFT => t,
+        SPACE => t,
+        LIGHT_SHADE => t,
+        DOWN_DOUBLE_AND_HORIZONTAL_SINGLE => LIGHT_DOWN_AND_HORIZONTAL,
+        DOWN_SINGLE_AND_HORIZONTAL_DOUBLE => LIGHT_DOWN_AND_HORIZONTAL,
+        DOUBLE_VERTICAL => LIGHT_VERTICAL,
+        UP_DOUBLE_AND_HORIZONTAL_SINGLE => LIGHT_UP_AND_HORIZONTAL,
+        UP_SINGLE_AND_HORIZONTAL_DOUBLE => LIGHT_UP_AND_HORIZONTAL,
+        DOUBLE_HORIZONTAL => LIGHT_HORIZONTAL,
+        VERTICAL_SINGLE_AND_RIGHT_DOUBLE => LIGHT_VERTICAL_AND_RIGHT,
+        VERTICAL_DOUBLE_AND_RIGHT_SINGLE => LIGHT_VERTICAL_AND_RIGHT,
+        VERTICAL_SINGLE_AND_LEFT_DOUBLE => LIGHT_VERTICAL_AND_LEFT,
+        VERTICAL_DOUBLE_AND_LEFT_SINGLE => LIGHT_VERTICAL_AND_LEFT,
+        VERTICAL_DOUBLE_AND_HORIZONTAL_SINGLE => LIGHT_VERTICAL_AND_HORIZONTAL,
+        VERTICAL_SINGLE_AND_HORIZONTAL_DOUBLE => LIGHT_VERTICAL_AND_HORIZONTAL,
+        DOUBLE_VERTICAL_AND_HORIZONTAL => LIGHT_VERTICAL_AND_HORIZONTAL,
+        _ => SPACE,
+    }
+}
+
+// The four layers of a character, with THIN made from TEXT.
+fn thin(c: [u32; 4]) -> [u32; 4]
+    ensures { λ r. ⌜ r ≡ thinLayers c ⌝ }
+{
+    let t = c[0];
+    let mut out = c;
+    out[1] = thin_code(t);
+    out
+}
+
+fn thin_at(text: &[u32], thins: &mut [u32], body: &[u32], grid: &[u32], i: usize)
+    requires { ⌜ (i < length (now text)) × ((i < length (now thins)) × ((i < length (now body)) × (i < length (now grid)))) ⌝ }
+    ensures { λ _. ⌜ now (thins .exit) ≡ set (now (thins .entry)) i (thinOf (getD (now (text .entry)) i 0)) ⌝ }
+{
+    let c = thin([text[i], thins[i], body[i], grid[i]]);
+    thins[i] = c[1];
+}
+
+// THIN of TEXT.
+pub fn make_thin(
+    text: &[u32],
+    thins: &mut [u32],
+    body: &[u32],
+    grid: &[u32],
+    width: usize,
+    rows: usize,
+)
+    requires { ⌜ LayersOf width rows (now text) (now thins) (now body) (now grid) ⌝ }
+    ensures { λ _. ⌜ canvas width rows (now (thins .exit)) ≡ thinPicture width rows (canvas width rows (now (text .entry))) ⌝ }
+{
+    let n = rows * width;
+    let mut i = 0;
+    while i < n {
+        thin_at(text, thins, body, grid, i);
+        i += 1;
+    }
+}
+
+// A character of the body's top row.
+fn top_code(t: u32) -> u32
+    ensures { λ r. ⌜ r ≡ topOf t ⌝ }
+{
+    match t {
+        LIGHT_VERTICAL_AND_RIGHT => LIGHT_DOWN_AND_RIGHT,
+        LIGHT_UP_AND_HORIZONTAL => LIGHT_HORIZONTAL,
+        LIGHT_VERTICAL_AND_LEFT => LIGHT_DOWN_AND_LEFT,
+        LIGHT_VERTICAL_AND_HORIZONTAL => LIGHT_DOWN_AND_HORIZONTAL,
+        _ => t,
+    }
+}
+
+fn body_code(top: usize, y: usize, t: u32, b: u32) -> u32
+    requires { ⌜ y < 2 ^ 32 ⌝ }
+    ensures { λ r. ⌜ r ≡ bodyCode top y t b ⌝ }
+{
+    if y + 1 < top {
+        return LIGHT_SHADE;
+    }
+    if y == top {
+        return top_code(t);
+    }
+    if top < y {
+        return t;
+    }
+    b
+}
+
+fn shaded_code(top: usize, y: usize, g: u32) -> u32
+    requires { ⌜ y < 2 ^ 32 ⌝ }
+    ensures { λ r. ⌜ r ≡ shadedCode top y g ⌝ }
+{
+    if y + 1 < top {
+        return LIGHT_SHADE;
+    }
+    g
+}
+
+// The four layers of a character in row y, with BODY and GRID as the BODY pass leaves them.
+fn body(c: [u32; 4], top: usize, y: usize) -> [u32; 4]
+    requires { ⌜ y < 2 ^ 32 ⌝ }
+    ensures { λ r. ⌜ r ≡ bodyLayers top y c ⌝ }
+{
+    let t = c[1];
+    let b = c[2];
+    let g = c[3];
+    let mut out = c;
+    out[2] = body_code(top, y, t, b);
+    out[3] = shaded_code(top, y, g);
+    out
+}
+
+fn body_at(
+    text: &[u32],
+    thins: &[u32],
+    bodies: &mut [u32],
+    grid: &mut [u32],
+    at: usize,
+    top: usize,
+    y: usize,
+)
+    requires { ⌜ (at < length (now text)) × ((at < length (now thins)) × ((at < length (now bodies)) × ((at < length (now grid)) × (y < 2 ^ 32)))) ⌝ }
+    ensures { λ _. ⌜ now (bodies .exit) ≡ set (now (bodies .entry)) at (bodyCode top y (getD (now (thins .entry)) at 0) (getD (now (bodies .entry)) at 0)) ⌝ }
+    ensures { λ _. ⌜ now (grid .exit) ≡ set (now (grid .entry)) at (shadedCode top y (getD (now (grid .entry)) at 0)) ⌝ }
+{
+    let c = body([text[at], thins[at], bodies[at], grid[at]], top, y);
+    bodies[at] = c[2];
+    grid[at] = c[3];
+}
+
+// Row y of the body's columns, n characters from `base` on.
+fn body_row(
+    text: &[u32],
+    thins: &[u32],
+    bodies: &mut [u32],
+    grid: &mut [u32],
+    base: usize,
+    n: usize,
+    top: usize,
+    y: usize,
+)
+    requires { ⌜ (base + n ≤ length (now text)) × ((base + n ≤ length (now thins)) × ((base + n ≤ length (now bodies)) × ((base + n ≤ length (now grid)) × (y < 2 ^ 32)))) ⌝ }
+    ensures { λ _. ⌜ now (bodies .exit) ≡ turns (storeAt (λ k. base + k) (λ k. bodyCode top y (getD (now (thins .entry)) (base + k) 0))) n (now (bodies .entry)) ⌝ }
+    ensures { λ _. ⌜ now (grid .exit) ≡ turns (storeAt (λ k. base + k) (λ k. shadedCode top y)) n (now (grid .entry)) ⌝ }
+{
+    let mut k = 0;
+    while k < n {
+        body_at(text, thins, bodies, grid, base + k, top, y);
+        k += 1;
+    }
+}
+
+// BODY of THIN, and ░ above it in GRID.
+pub fn make_body(
+    text: &[u32],
+    thins: &[u32],
+    bodies: &mut [u32],
+    grid: &mut [u32],
+    width: usize,
+    rows: usize,
+    r: Rect,
+)
+    requires { ⌜ LayersOf width rows (now text) (now thins) (now bodies) (now grid) × BodyIn width rows r ⌝ }
+    ensures { λ _. ⌜ canvas width rows (now (bodies .exit)) ≡ bodyPicture r (canvas width rows (now (thins .entry))) (canvas width rows (now (bodies .entry))) ⌝ }
+    ensures { λ _. ⌜ canvas width rows (now (grid .exit)) ≡ shadedPicture r (canvas width rows (now (grid .entry))) ⌝ }
+{
+    let left = r.left;
+    let top = r.top;
+    let bottom = r.bottom;
+    let n = r.right - left;
+    let mut y = 0;
+    while y < bottom {
+        body_row(text, thins, bodies, grid, y * width + left, n, top, y);
+        y += 1;
+    }
+}
+
+// The characters of a direction: the line that is carried on, the line that it crosses, and its two ends.
+pub struct Stroke {
+    pub line: u32,
+    pub crossed: u32,
+    pub first: u32,
+    pub last: u32,
+}
+
+// The character at place k of a line of n, after the line is carried across. The line starts `off` places from the canvas's side.
+fn carried_code(d: Stroke, off: usize, n: usize, k: usize, c: u32) -> u32
+    requires { ⌜ (k < n) × (off + n < 2 ^ 32) ⌝ }
+    ensures { λ r. ⌜ r ≡ carriedCode d off n k c ⌝ }
+{
+    if c == d.crossed {
+        if k == 0 {
+            return d.first;
+        }
+        if k + 1 == n {
+            return d.last;
+        }
+        return LIGHT_VERTICAL_AND_HORIZONTAL;
+    }
+    if c == d.last {
+        if k + 1 < n {
+            return LIGHT_VERTICAL_AND_HORIZONTAL;
+        }
+        return c;
+    }
+    if c == d.first {
+        if 0 < off + k {
+            return LIGHT_VERTICAL_AND_HORIZONTAL;
+        }
+        return c;
+    }
+    if c == SPACE {
+        return d.line;
+    }
+    c
+}
+
+// The four layers of a character, with GRID carried across.
+fn carried(c: [u32; 4], d: Stroke, off: usize, n: usize, k: usize) -> [u32; 4]
+    requires { ⌜ (k < n) × (off + n < 2 ^ 32) ⌝ }
+    ensures { λ r. ⌜ r ≡ carriedLayers d off n k c ⌝ }
+{
+    let g = c[3];
+    let mut out = c;
+    out[3] = carried_code(d, off, n, k, g);
+    out
+}
+
+// Whether one of n characters from `base` on, `stride` apart, is `code`.
+fn has_code(s: &[u32], base: usize, stride: usize, n: usize, code: u32) -> bool
+    requires { ⌜ ((k : ℕ) → k < n → base + k * stride < length (now s)) ⌝ }
+    ensures { λ r. ⌜ r ≡ anyAt (λ k. eqb (getD (now (s .entry)) (base + k * stride) 0) code) n ⌝ }
+{
+    let mut k = 0;
+    while k < n {
+        if s[base + k * stride] == code {
+            return true;
+        }
+        k += 1;
+    }
+    false
+}
+
+// The character at `at`, place k of its line.
+fn carry_at(
+    text: &[u32],
+    thins: &[u32],
+    bodies: &[u32],
+    grid: &mut [u32],
+    d: Stroke,
+    at: usize,
+    off: usize,
+    n: usize,
+    k: usize,
+)
+    requires { ⌜ (at < length (now text)) × ((at < length (now thins)) × ((at < length (now bodies)) × (at < length (now grid)))) ⌝ }
+    requires { ⌜ (k < n) × (off + n < 2 ^ 32) ⌝ }
+    ensures { λ _. ⌜ now (grid .exit) ≡ set (now (grid .entry)) at (carriedCode d off n k (getD (now (grid .entry)) at 0)) ⌝ }
+{
+    let c = carried([text[at], thins[at], bodies[at], grid[at]], d, off, n, k);
+    grid[at] = c[3];
+}
+
+// A line that holds a character of its stroke is carried across.
+fn carry_line(
+    text: &[u32],
+    thins: &[u32],
+    bodies: &[u32],
+    grid: &mut [u32],
+    d: Stroke,
+    base: usize,
+    stride: usize,
+    n: usize,
+    off: usize,
+)
+    requires { ⌜ ((k : ℕ) → k < n → (base + k * stride < length (now text)) × ((base + k * stride < length (now thins)) × ((base + k * stride < length (now bodies)) × (base + k * stride < length (now grid))))) ⌝ }
+    requires { ⌜ off + n < 2 ^ 32 ⌝ }
+    ensures { λ _. ⌜ now (grid .exit) ≡ lineCarried d off (λ k. base + k * stride) n (now (grid .entry)) ⌝ }
+{
+    let line = d.line;
+    if has_code(grid, base, stride, n, line) {
+        let mut k = 0;
+        while k < n {
+            carry_at(text, thins, bodies, grid, d, base + k * stride, off, n, k);
+            k += 1;
+        }
+    }
+}
+
+// Each of m lines, whose first characters stand `across` apart.
+fn carry_lines(
+    text: &[u32],
+    thins: &[u32],
+    bodies: &[u32],
+    grid: &mut [u32],
+    d: Stroke,
+    base: usize,
+    across: usize,
+    m: usize,
+    stride: usize,
+    n: usize,
+    off: usize,
+)
+    requires { ⌜ ((j k : ℕ) → j < m → k < n → (placed base across stride j k < length (now text)) × ((placed base across stride j k < length (now thins)) × ((placed base across stride j k < length (now bodies)) × (placed base across stride j k < length (now grid))))) ⌝ }
+    requires { ⌜ (0 < n) × (off + n < 2 ^ 32) ⌝ }
+    ensures { λ _. ⌜ now (grid .exit) ≡ linesCarried d off (placed base across stride) m n (now (grid .entry)) ⌝ }
+{
+    let mut j = 0;
+    while j < m {
+        carry_line(
+            text,
+            thins,
+            bodies,
+            grid,
+            d,
+            base + j * across,
+            stride,
+            n,
+            off,
+        );
+        j += 1;
+    }
+}
+
+// The first n characters of a layer become those of another.
+fn copy_layer(src: &[u32], dst: &mut [u32], n: usize)
+    requires { ⌜ (n ≤ length (now src)) × (n ≤ length (now dst)) ⌝ }
+    ensures { λ _. ⌜ now (dst .exit) ≡ take n (now (src .entry)) ++ drop n (now (dst .entry)) ⌝ }
+{
+    let mut i = 0;
+    while i < n {
+        dst[i] = src[i];
+        i += 1;
+    }
+}
+
+// GRID of BODY: the lines of the body are carried across it.
+pub fn make_grid(
+    text: &[u32],
+    thins: &[u32],
+    bodies: &[u32],
+    grid: &mut [u32],
+    width: usize,
+    rows: usize,
+    r: Rect,
+)
+    requires { ⌜ LayersOf width rows (now text) (now thins) (now bodies) (now grid) × BodyIn width rows r ⌝ }
+    ensures { λ _. ⌜ canvas width rows (now (grid .exit)) ≡ gridPicture r (canvas width rows (now (bodies .entry))) ⌝ }
+{
+    let left = r.left;
+    let top = r.top;
+    let columns = r.right - left;
+    let lines = r.bottom - top;
+    copy_layer(bodies, grid, rows * width);
+    let base = top * width + left;
+    let across = Stroke {
+        line: LIGHT_HORIZONTAL,
+        crossed: LIGHT_VERTICAL,
+        first: LIGHT_VERTICAL_AND_RIGHT,
+        last: LIGHT_VERTICAL_AND_LEFT,
+    };
+    carry_lines(
+        text,
+        thins,
+        bodies,
+        grid,
+        across,
+        base,
+        width,
+        lines,
+        1,
+        columns,
+        left,
+    );
+    let down = Stroke {
+        line: LIGHT_VERTICAL,
+        crossed: LIGHT_HORIZONTAL,
+        first: LIGHT_DOWN_AND_HORIZONTAL,
+        last: LIGHT_UP_AND_HORIZONTAL,
+    };
+    carry_lines(
+        text,
+        thins,
+        bodies,
+        grid,
+        down,
+        base,
+        1,
+        columns,
+        width,
+        lines,
+        0,
+    );
+}
