@@ -1,0 +1,3 @@
+-- Laws of rects in a slice and of regions.
+pub mod RectsLaws
+pub mod RegionLaws

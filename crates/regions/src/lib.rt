@@ -1,0 +1,128 @@
+// The regions of THIN, in row order, as rects in a slice of four numbers each.
+use model::Rect;
+use model::Refusal;
+use model::box_drawing::*;
+use model::limits::REGIONS;
+use walks::Framed;
+ghost use mathlib.Core.Path.{_≡_};
+ghost use mathlib.Core.Bool.{true};
+ghost use mathlib.Core.List.{[], _∷_, _++_};
+ghost use Prim.Native.Nat.{_+_, _*_, _<_, _≤_};
+ghost use lib.ListN.{length, getD};
+ghost use Rattle.lists.specs.Answer.{ok, each};
+ghost use Rattle.lists.specs.Choose.{choose};
+ghost use Rattle.lists.specs.Picture.{canvas, at};
+ghost use Rattle.model.specs.Limits.{regionCount};
+ghost use Rattle.walks.specs.Frame.{frameOf};
+ghost use Rattle.walks.specs.Kinds.{thin};
+ghost use Rattle.regions.specs.Regions.{isCorner, cornersOf, addRegion, regionsOf};
+ghost use Rattle.regions.specs.Rects.{rectsOf, regionsIn, Small, Layer};
+
+// So many regions stand in the slice, or why they cannot.
+pub enum Counted {
+    Regions(usize),
+    NotCounted(Refusal),
+}
+
+// Whether a region starts at a character.
+fn is_corner(code: u32) -> bool
+    ensures { λ r. ⌜ r ≡ isCorner code ⌝ }
+{
+    match code {
+        LIGHT_DOWN_AND_RIGHT => true,
+        LIGHT_VERTICAL_AND_RIGHT => true,
+        LIGHT_DOWN_AND_HORIZONTAL => true,
+        LIGHT_VERTICAL_AND_HORIZONTAL => true,
+        _ => false,
+    }
+}
+
+// The corners of a layer of w columns and h rows.
+fn count_corners(layer: &[u32], w: usize, h: usize) -> usize
+    requires { ⌜ h * w ≤ length (now layer) ⌝ }
+    ensures { λ r. ⌜ r ≡ length (cornersOf (canvas w h (now (layer .entry))) w h) ⌝ }
+{
+    let size = h * w;
+    let mut i = 0;
+    let mut n = 0;
+    while i < size {
+        if is_corner(layer[i]) {
+            n += 1;
+        }
+        i += 1;
+    }
+    n
+}
+
+// Rect n of a slice.
+fn put_rect(rects: &mut [u32], n: usize, r: Rect)
+    requires { ⌜ (n * 4 + 4 ≤ length (now rects)) × Small r ⌝ }
+    ensures { λ _. ⌜ rectsOf (now (rects .exit)) (n + 1) ≡ rectsOf (now (rects .entry)) n ++ (r ∷ []) ⌝ }
+{
+    let p = n * 4;
+    rects[p] = r.left as u32;
+    rects[p + 1] = r.top as u32;
+    rects[p + 2] = r.right as u32;
+    rects[p + 3] = r.bottom as u32;
+}
+
+// The region whose corner stands at place i, as rect n.
+fn add_region(layer: &[u32], w: usize, h: usize, i: usize, rects: &mut [u32], n: usize) -> Counted
+    requires { ⌜ Layer w h (length (now layer)) × (i < h * w) × (n * 4 + 4 ≤ length (now rects)) ⌝ }
+    ensures { λ r. ⌜ regionsIn r (now (rects .exit)) ≡ addRegion (frameOf thin (canvas w h (now (layer .entry))) w h) w i (rectsOf (now (rects .entry)) n) ⌝ }
+{
+    match walks::recognize_region(layer, w, h, i % w, i / w) {
+        Framed::Closed(r) => {
+            put_rect(rects, n, r);
+            Counted::Regions(n + 1)
+        }
+        Framed::NotFramed(r) => Counted::NotCounted(r),
+    }
+}
+
+// The same where a corner stands there; else the regions are those so far.
+fn add_if_corner(
+    layer: &[u32],
+    w: usize,
+    h: usize,
+    i: usize,
+    rects: &mut [u32],
+    n: usize,
+) -> Counted
+    requires { ⌜ Layer w h (length (now layer)) × (i < h * w) × (isCorner (getD (now layer) i 0) ≡ true → n * 4 + 4 ≤ length (now rects)) ⌝ }
+    ensures { λ r. ⌜ regionsIn r (now (rects .exit)) ≡ choose (isCorner (at (canvas w h (now (layer .entry))) w i)) (addRegion (frameOf thin (canvas w h (now (layer .entry))) w h) w i (rectsOf (now (rects .entry)) n)) (ok (rectsOf (now (rects .entry)) n)) ⌝ }
+{
+    if is_corner(layer[i]) {
+        return add_region(layer, w, h, i, rects, n);
+    }
+    Counted::Regions(n)
+}
+
+// The regions of a layer whose corners were counted.
+fn all_regions(layer: &[u32], w: usize, h: usize, rects: &mut [u32]) -> Counted
+    requires { ⌜ Layer w h (length (now layer)) × (length (cornersOf (canvas w h (now layer)) w h) * 4 ≤ length (now rects)) ⌝ }
+    ensures { λ r. ⌜ regionsIn r (now (rects .exit)) ≡ each (addRegion (frameOf thin (canvas w h (now (layer .entry))) w h) w) (cornersOf (canvas w h (now (layer .entry))) w h) [] ⌝ }
+{
+    let size = h * w;
+    let mut i = 0;
+    let mut n = 0;
+    while i < size {
+        n = match add_if_corner(layer, w, h, i, rects, n) {
+            Counted::Regions(m) => m,
+            Counted::NotCounted(r) => return Counted::NotCounted(r),
+        };
+        i += 1;
+    }
+    Counted::Regions(n)
+}
+
+// The regions of a layer of w columns and h rows.
+pub fn regions(layer: &[u32], w: usize, h: usize, rects: &mut [u32]) -> Counted
+    requires { ⌜ Layer w h (length (now layer)) × (regionCount * 4 ≤ length (now rects)) ⌝ }
+    ensures { λ r. ⌜ regionsIn r (now (rects .exit)) ≡ regionsOf (canvas w h (now (layer .entry))) w h ⌝ }
+{
+    if REGIONS < count_corners(layer, w, h) {
+        return Counted::NotCounted(Refusal::OverLimit);
+    }
+    all_regions(layer, w, h, rects)
+}
