@@ -1,26 +1,46 @@
--- The answers of `scan`, from where the sheet starts and what it measures.
+-- The answers of `scan`, from where the sheet starts and what it measures, and what they tell a caller.
 use mathlib.Core.Path.{_≡_, sym, ap, _∙_}
-use mathlib.Core.Bool.{false, and-false}
-use mathlib.Core.List.{List}
+use mathlib.Core.Bool.{true, false, and-false}
+use mathlib.Core.List.{List, map}
 use Prim.Native.Nat.{ℕ, _*_, _≤_, _<_}
 use native.Mathlib.Nat.{mul-le-mul}
 use native.Mathlib.Omega.{arith}
 use lib.Dec.{leb}
 use lib.ListN.{length}
-use borrow.Author.Tests.{le-leb, lt-leb}
+use borrow.Author.Tests.{leb-true, le-leb, lt-leb}
 use Rattle.lists.specs.Put.{put}
+use Rattle.lists.proofs.AnswerLaws.{refused-ok}
+use Rattle.lists.proofs.Tests.{by-flag, both}
 use Rattle.model.specs.Limits.{canvasRows, canvasColumns, canvasSize}
 use Rattle.model.specs.declared.Refusal.the-variants.{CanvasTooLarge}
-use Rattle.scan.specs.Canvas.{fits, sizeOf, textIn, rowsAt, scannedIn, Ended}
+use Rattle.scan.specs.Canvas.{Size, fits, sizeOf, textIn, blanksIn, rowsAt, scannedIn, Ended}
 use Rattle.scan.specs.Found.{textsAt, StartAt, Measured}
-use Rattle.scan.specs.Rows.{upTo, widest, flat}
+use Rattle.scan.specs.Rows.{upTo, widest, blank, flat}
 use Rattle.scan.specs.declared.Scanned.{Scanned}
 use Rattle.scan.specs.declared.Scanned.the-variants.{Canvas, NotScanned}
-use Rattle.scan.proofs.TextLayer.{flat-length}
 
--- what `scan` promises of the answer r, where the layer was d and is o
-abbrev Answered : List ℕ → ℕ → List ℕ → Scanned → List ℕ → Type 0
-Answered s from d r o = (scannedIn r ≡ sizeOf (rowsAt s from)) × (Ended r s from × (o ≡ textIn (rowsAt s from) d))
+-- an answered canvas has the size of the rows, and they fit
+pub scanned-size : (rs : List (List ℕ)) (h w e : ℕ) → scannedIn (Canvas h w e) ≡ sizeOf rs → (fits rs ≡ true) × (h ≡ length rs) × (w ≡ widest rs)
+unfolding sizeOf
+scanned-size rs h w e q =
+    by-flag (fits rs)
+    (λ f.
+    let k = rw f at q in
+    let z : _≡_ {A = Size} (record { height = h; width = w }) (record { height = length rs; width = widest rs }) = cc in
+    (f, ap (λ (x : Size). x .height) z, ap (λ (x : Size). x .width) z))
+    (λ f. refused-ok (sym (rw f at q)))
+
+pub fits-size : (rs : List (List ℕ)) → fits rs ≡ true → (widest rs ≤ canvasColumns) × (length rs ≤ canvasRows) × (length rs * widest rs ≤ canvasSize)
+fits-size rs f =
+    let b = both (leb (length rs) canvasRows) (leb (widest rs) canvasColumns) f in
+    let h = leb-true (length rs) canvasRows (b .0) in
+    let w = leb-true (widest rs) canvasColumns (b .1) in
+    (w, h, mul-le-mul h w)
+
+-- what `scan` promises of the answer r, where TEXT was d and is o, and BODY was b and is p
+abbrev Answered : List ℕ → ℕ → List ℕ → List ℕ → Scanned → List ℕ → List ℕ → Type 0
+Answered s from d b r o p =
+    (scannedIn r ≡ sizeOf (rowsAt s from)) × (Ended r s from × ((o ≡ textIn (rowsAt s from) d) × (p ≡ blanksIn (rowsAt s from) b)))
 
 module _ {s : List ℕ} {from at rows columns end : ℕ} (i : StartAt s from at) (m : Measured s at rows columns end) where
   height : rows ≡ length (rowsAt s from)
@@ -29,34 +49,38 @@ module _ {s : List ℕ} {from at rows columns end : ℕ} (i : StartAt s from at)
   width : columns ≡ widest (rowsAt s from)
   width = m .width ∙ ap widest (sym (i .same))
 
-  module _ (d : List ℕ) where
-    large : fits (rowsAt s from) ≡ false → Answered s from d (NotScanned (CanvasTooLarge rows columns)) d
-    unfolding sizeOf textIn
-    large f = (rw (f, ← height, ← width), (tt, rw f))
+  module _ (d b : List ℕ) where
+    large : fits (rowsAt s from) ≡ false → Answered s from d b (NotScanned (CanvasTooLarge rows columns)) d b
+    unfolding sizeOf textIn blanksIn
+    large f = (rw (f, ← height, ← width), (tt, (rw f, rw f)))
 
-    pub scan-rows : canvasRows < rows → Answered s from d (NotScanned (CanvasTooLarge rows columns)) d
+    pub scan-rows : canvasRows < rows → Answered s from d b (NotScanned (CanvasTooLarge rows columns)) d b
     scan-rows h = large (rw (← height, lt-leb rows canvasRows h))
 
-    pub scan-columns : canvasColumns < columns → Answered s from d (NotScanned (CanvasTooLarge rows columns)) d
+    pub scan-columns : canvasColumns < columns → Answered s from d b (NotScanned (CanvasTooLarge rows columns)) d b
     scan-columns h = large (rw (← width, lt-leb columns canvasColumns h) (and-false (leb (length (rowsAt s from)) canvasRows)))
 
     module _ (h : rows ≤ canvasRows) (k : columns ≤ canvasColumns) where
-      pub scan-room : canvasSize ≤ length d
-          → (at ≤ length s) × (widest (upTo (textsAt s at)) ≤ columns) × (length (flat columns (upTo (textsAt s at))) ≤ length d)
-      scan-room n =
-          let a = m .height in
-          let b = m .width in
-          let l = flat-length columns (upTo (textsAt s at)) (omega arith) in
-          let r : length (upTo (textsAt s at)) ≤ canvasRows = omega arith in
-          let q : length (upTo (textsAt s at)) * columns ≤ canvasRows * canvasColumns = mul-le-mul r k in
-          (i .inside, omega arith, omega arith)
+      pub scan-room : canvasSize ≤ length d → canvasSize ≤ length b
+          → (at ≤ length s) × (widest (upTo (textsAt s at)) ≤ columns) × (length (upTo (textsAt s at)) * columns ≤ length d) × (length (upTo (textsAt s at)) * columns ≤ length b)
+      scan-room n o =
+          let q : rows * columns ≤ canvasRows * canvasColumns = mul-le-mul h k in
+          let r : length (upTo (textsAt s at)) * columns ≤ canvasSize = rw (← m .height) q in
+          (i .inside, omega (arith, m .width), omega arith, omega arith)
 
-      pub scan-canvas : {o : List ℕ} → o ≡ put d 0 (flat columns (upTo (textsAt s at))) → Answered s from d (Canvas rows columns end) o
-      unfolding sizeOf textIn
+      fitting : fits (rowsAt s from) ≡ true
+      fitting = rw (← height, ← width, le-leb rows canvasRows h, le-leb columns canvasColumns k)
+
+      pub scan-canvas : {o p : List ℕ} → (o ≡ put d 0 (flat columns (upTo (textsAt s at)))) × (p ≡ put b 0 (flat columns (map blank (upTo (textsAt s at)))))
+          → Answered s from d b (Canvas rows columns end) o p
+      unfolding sizeOf textIn blanksIn
       scan-canvas w = (
-        rw (← height, ← width, le-leb rows canvasRows h, le-leb columns canvasColumns k),
+        rw (fitting, ← height, ← width),
         (
           (m .inside, m .rest ∙ sym (i .rest)),
-          w ∙ rw (← height, ← width, le-leb rows canvasRows h, le-leb columns canvasColumns k, i .same),
+          (
+            w .0 ∙ rw (fitting, ← width, i .same),
+            w .1 ∙ rw (fitting, ← width, i .same),
+          ),
         ),
       )

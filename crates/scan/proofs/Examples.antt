@@ -2,13 +2,15 @@
 use mathlib.Core.Path.{_≡_, refl}
 use mathlib.Core.List.{List, [], _∷_}
 use Prim.Native.Nat.{ℕ}
+use lib.ListN.{replicate}
 use Rattle.lists.specs.Answer.{ok}
+use Rattle.lists.specs.Put.{put}
 use Rattle.model.specs.Box.{─, │, ┌, ┐, └, ┘, ░}
 use Rattle.unicode.specs.Lines.{lines, texts, after, lastOf}
 use Rattle.unicode.specs.Trim.{trimStart, trimEnd, trim}
 use Rattle.unicode.specs.Utf8.{more, by, decode, read, codes}
 use Rattle.unicode.specs.White.{among}
-use Rattle.scan.specs.Canvas.{sizeOf, rowsAt}
+use Rattle.scan.specs.Canvas.{sizeOf, blanksIn, rowsAt}
 use Rattle.scan.specs.Rows.{upTo, collect, widest, flat}
 use Rattle.scan.specs.Sheet.{linesThrough, linesTaken, behind, restOf}
 
@@ -43,10 +45,15 @@ pub three-rows : rowsAt sheet 0 ≡ (┌ ∷ ─ ∷ ┐ ∷ []) ∷ (│ ∷ []
 unfolding collect upTo lines texts lastOf trim trimStart trimEnd among read decode by more
 three-rows = refl
 
--- and its layer
+-- and its layers: TEXT
 pub filled : flat 3 (rowsAt sheet 0) ≡ ┌ ∷ ─ ∷ ┐ ∷ │ ∷ ░ ∷ ░ ∷ └ ∷ ─ ∷ ┘ ∷ []
 unfolding flat collect upTo lines texts lastOf trim trimStart trimEnd among read decode by more
 filled = refl
+
+-- BODY, of which one element more is left as it was
+pub blanks : blanksIn (rowsAt sheet 0) (replicate 10 1) ≡ 32 ∷ 32 ∷ 32 ∷ 32 ∷ ░ ∷ ░ ∷ 32 ∷ 32 ∷ 32 ∷ 1 ∷ []
+unfolding blanksIn put flat widest collect upTo lines texts lastOf trim trimStart trimEnd among read decode by more
+blanks = refl
 
 -- the text behind it
 pub rest : restOf (codes sheet) ≡ 0x72 ∷ 0x65 ∷ 0x73 ∷ 0x74 ∷ 0x20 ∷ ┌ ∷ ┘ ∷ 0x0A ∷ []

@@ -1,4 +1,4 @@
--- A row that is being written: its code points, then ░ up to the width.
+-- A row that is being written: its code points or blanks, then ░ up to the width.
 use mathlib.Core.Path.{_≡_, refl, sym, ap, _∙_}
 use mathlib.Core.List.{List, [], _∷_, _++_}
 use Prim.Native.Nat.{ℕ, _+_, _-_, _≤_, _<_}
@@ -13,7 +13,8 @@ use Rattle.unicode.specs.Lines.{codesAt}
 use Rattle.unicode.specs.Utf8.{codes, decode}
 use Rattle.unicode.specs.declared.Decoded.the-variants.{Char}
 use Rattle.unicode.proofs.Utf8Laws.{codes-char, decode-fits}
-use Rattle.scan.specs.Rows.{fill}
+use Rattle.scan.specs.Rows.{fill, blank}
+use Rattle.scan.proofs.TextLayer.{blank-length}
 
 -- i code points of a text are written, and the next stands at p
 pub record Putting (s : List ℕ) (from count : ℕ) (d : List ℕ) (base : ℕ) (out : List ℕ) (p i : ℕ) : Type 0 where
@@ -59,32 +60,38 @@ module _ {s : List ℕ} {from count : ℕ} {d : List ℕ} {base : ℕ} {out : Li
       let e : i ≡ count = omega arith in
       q .done ∙ ap (λ (k : ℕ). put d base (take k (codes (drop from s)))) e
 
--- ░ is written i times
-pub record Filling (d : List ℕ) (base n : ℕ) (out : List ℕ) (i : ℕ) : Type 0 where
+-- a code point is written i times
+pub record Filling (d : List ℕ) (base n code : ℕ) (out : List ℕ) (i : ℕ) : Type 0 where
   pub along : i ≤ n
-  pub done : out ≡ put d base (replicate i ░)
+  pub done : out ≡ put d base (replicate i code)
   pub long : length out ≡ length d
 
-pub filling-start : (d : List ℕ) (base n : ℕ) → Filling d base n d 0
-filling-start d base n = record { along = omega arith; done = sym (put-nil d base); long = refl }
+pub filling-start : (d : List ℕ) (base n code : ℕ) → Filling d base n code d 0
+filling-start d base n code = record { along = omega arith; done = sym (put-nil d base); long = refl }
 
-module _ {d : List ℕ} {base n : ℕ} {out : List ℕ} {i : ℕ} (q : Filling d base n out i) where
-  pub filling-more : i < n → base + n ≤ length d → Filling d base n (set out (base + i) ░) (i + 1)
+module _ {d : List ℕ} {base n code : ℕ} {out : List ℕ} {i : ℕ} (q : Filling d base n code out i) where
+  pub filling-more : i < n → base + n ≤ length d → Filling d base n code (set out (base + i) code) (i + 1)
   filling-more h r =
-      let l = length-replicate {A = ℕ} i ░ in
+      let l = length-replicate i code in
       record {
         along = omega arith;
-        done = ap (λ (x : List ℕ). set x (base + i) ░) (q .done) ∙ put-snoc d base (replicate i ░) ░ (base + i) (omega arith) (omega arith) ∙ ap (put d base) (replicate-append-replicate {A = ℕ} i 1 ░);
-        long = length-set out (base + i) ░ ∙ q .long;
+        done = ap (λ (x : List ℕ). set x (base + i) code) (q .done) ∙ put-snoc d base (replicate i code) code (base + i) (omega arith) (omega arith) ∙ ap (put d base) (replicate-append-replicate i 1 code);
+        long = length-set out (base + i) code ∙ q .long;
       }
 
-  pub filling-done : n ≤ i → out ≡ put d base (replicate n ░)
+  pub filling-done : n ≤ i → out ≡ put d base (replicate n code)
   filling-done h =
       let l = q .along in
       let e : i ≡ n = omega arith in
-      q .done ∙ ap (λ (k : ℕ). put d base (replicate k ░)) e
+      q .done ∙ ap (λ (k : ℕ). put d base (replicate k code)) e
 
 -- a text and the ░ behind it, written one after the other, are a row
 pub row-written : (d : List ℕ) (base : ℕ) (t : List ℕ) (width count : ℕ) {o o' : List ℕ} → count ≡ length t → count ≤ width → base + width ≤ length d
     → o ≡ put d base t → o' ≡ put o (base + count) (replicate (width - count) ░) → o' ≡ put d base (fill width t)
 row-written d base t width count e h r p q = q ∙ rw (p, e) (put-put d base t (replicate (width - length t) ░) (omega arith))
+
+-- and so are as many blanks as the text has code points
+pub blanks-written : (d : List ℕ) (base : ℕ) (t : List ℕ) (width count : ℕ) {o o' : List ℕ} → count ≡ length t → count ≤ width → base + width ≤ length d
+    → o ≡ put d base (replicate count 32) → o' ≡ put o (base + count) (replicate (width - count) ░) → o' ≡ put d base (fill width (blank t))
+blanks-written d base t width count e h r p =
+    row-written d base (blank t) width count (e ∙ sym (blank-length t)) h r (p ∙ ap (λ (n : ℕ). put d base (replicate n 32)) e)

@@ -1,20 +1,21 @@
--- The rows of a sheet as a layer: how long it is, and the canvas that it shows.
+-- The rows of a sheet as a layer: how long it is, and the canvas that it shows, in TEXT and in BODY.
 use mathlib.Core.Path.{_≡_, refl, sym, ap, _∙_}
 use mathlib.Core.Bool.{true}
-use mathlib.Core.List.{List, [], _∷_, _++_}
+use mathlib.Core.List.{List, [], _∷_, map}
 use Prim.Native.Nat.{ℕ, _+_, _-_, _*_, _≤_, _<_}
 use native.Mathlib.Nat.{suc-mul}
 use native.Mathlib.Omega.{arith}
-use lib.ListN.{length, getD, drop, replicate, length-append, length-replicate, List·getD-append}
+use lib.ListN.{length, getD, drop, replicate, length-append, length-replicate, length-map, List·getD-append}
 use borrow.Author.Tests.{eqb-true}
 use Rattle.lists.specs.Picture.{pic, canvas}
+use Rattle.lists.specs.Put.{put}
 use Rattle.lists.proofs.PictureLaws.{picture-is, within-in, within-out, place-fits}
 use Rattle.lists.proofs.PutLaws.{put-front}
 use Rattle.lists.proofs.Tests.{by-flag, true-false}
 use Rattle.model.specs.Box.{┌, ░}
 use Rattle.unicode.specs.Lines.{lines, texts}
-use Rattle.scan.specs.Canvas.{fits, textIn}
-use Rattle.scan.specs.Rows.{begins, upTo, collect, rows, widest, fill, flat}
+use Rattle.scan.specs.Canvas.{fits, textIn, blanksIn}
+use Rattle.scan.specs.Rows.{begins, upTo, collect, rows, widest, fill, blank, flat}
 
 pub fill-length : (w : ℕ) (r : List ℕ) → length r ≤ w → length (fill w r) ≡ w
 fill-length w r h =
@@ -31,20 +32,41 @@ flat-length w (r ∷ rs) h =
     let e = flat-length w rs (omega arith) in
     omega (arith, suc-mul (length rs) w)
 
--- the layer begins with the rows, so it shows their canvas
+pub blank-length : (r : List ℕ) → length (blank r) ≡ length r
+blank-length r = length-replicate {A = ℕ} (length r) 32
+
+-- other rows, each as long as the one it stands for
+module _ (g : List ℕ → List ℕ) (same : (r : List ℕ) → length (g r) ≡ length r) where
+  widest-map : (rs : List (List ℕ)) → widest (map g rs) ≡ widest rs
+  unfolding widest
+  widest-map [] = refl
+  widest-map (r ∷ rs) = rw (same r, widest-map rs)
+
+  pub map-length : (w : ℕ) (rs : List (List ℕ)) → widest rs ≤ w → length (flat w (map g rs)) ≡ length rs * w
+  map-length w rs h = flat-length w (map g rs) (rw (widest-map rs) h) ∙ rw (length-map rs g)
+
+-- a layer begins with the rows that are written into it, so it shows their canvas
+rows-canvas : (w : ℕ) (rs : List (List ℕ)) (d : List ℕ) → widest rs ≤ w → canvas w (length rs) (put d 0 (flat w rs)) ≡ canvas w (length rs) (flat w rs)
+rows-canvas w rs d h =
+    let F : List ℕ = flat w rs in
+    picture-is w (length rs) (pic w (put d 0 F)) (canvas w (length rs) F)
+    (λ x y p q.
+    let l = flat-length w rs h in
+    let b = place-fits (length rs) w x y (length F) p q (omega arith) in
+    ap (λ (o : List ℕ). pic w o x y) (put-front d F (length F) refl) ∙ List·getD-append F (drop (length F) d) 0 (y * w + x) b ∙ sym (within-in w (length rs) (pic w F) x y p q))
+    (λ x y n. within-out w (length rs) (pic w F) x y n)
+
 pub text-canvas : (rs : List (List ℕ)) (d : List ℕ) → fits rs ≡ true
     → canvas (widest rs) (length rs) (textIn rs d) ≡ canvas (widest rs) (length rs) (flat (widest rs) rs)
 unfolding textIn
-text-canvas rs d f =
-    let w = widest rs in
-    let F : List ℕ = flat w rs in
-    let e : textIn rs d ≡ F ++ drop (length F) d = rw f (put-front d F (length F) refl) in
-    picture-is w (length rs) (pic w (textIn rs d)) (canvas w (length rs) F)
-    (λ x y p q.
-    let l = flat-length w rs (omega arith) in
-    let b = place-fits (length rs) w x y (length F) p q (omega arith) in
-    ap (λ (o : List ℕ). pic w o x y) e ∙ List·getD-append F (drop (length F) d) 0 (y * w + x) b ∙ sym (within-in w (length rs) (pic w F) x y p q))
-    (λ x y n. within-out w (length rs) (pic w F) x y n)
+text-canvas rs d f = rw f (rows-canvas (widest rs) rs d (omega arith))
+
+pub blanks-canvas : (rs : List (List ℕ)) (d : List ℕ) → fits rs ≡ true
+    → canvas (widest rs) (length rs) (blanksIn rs d) ≡ canvas (widest rs) (length rs) (flat (widest rs) (map blank rs))
+unfolding blanksIn
+blanks-canvas rs d f =
+    let c = rows-canvas (widest rs) (map blank rs) d (omega (arith, widest-map blank blank-length rs)) in
+    rw f (rw (length-map rs blank) at c)
 
 -- the first row begins with ┌
 corner-row : (w : ℕ) (r : List ℕ) (rs : List (List ℕ)) → begins r ≡ true → (0 < widest (r ∷ rs)) × (getD (flat w (r ∷ rs)) 0 0 ≡ ┌)

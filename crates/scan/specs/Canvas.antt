@@ -1,6 +1,6 @@
--- What scanning a sheet answers, and what it leaves in the TEXT layer.
+-- What scanning a sheet answers, and what it leaves in the layers TEXT and BODY.
 use mathlib.Core.Bool.{Bool, _&&_}
-use mathlib.Core.List.{List}
+use mathlib.Core.List.{List, map}
 use mathlib.Core.Path.{_≡_}
 use Prim.Native.Nat.{ℕ, _≤_}
 use lib.Dec.{leb}
@@ -12,7 +12,7 @@ use Rattle.model.specs.Limits.{canvasRows, canvasColumns}
 use Rattle.model.specs.Refusals.{Reading}
 use Rattle.model.specs.declared.Refusal.the-variants.{CanvasTooLarge}
 use Rattle.unicode.specs.Utf8.{codes}
-use Rattle.scan.specs.Rows.{rows, widest, flat}
+use Rattle.scan.specs.Rows.{rows, widest, blank, flat}
 use Rattle.scan.specs.Sheet.{restOf}
 use Rattle.scan.specs.declared.Scanned.{Scanned}
 use Rattle.scan.specs.declared.Scanned.the-variants.{Canvas, NotScanned}
@@ -31,9 +31,13 @@ unfoldable pub sizeOf : List (List ℕ) → Reading Size
 sizeOf rs =
     choose (fits rs) (ok (record { height = length rs; width = widest rs })) (refused (CanvasTooLarge (length rs) (widest rs)))
 
--- the layer d afterwards: the rows, each filled to the longest, where the canvas fits; else as it was
+-- the TEXT layer d afterwards: the rows, each filled to the longest, where the canvas fits; else as it was
 unfoldable pub textIn : List (List ℕ) → List ℕ → List ℕ
 textIn rs d = choose (fits rs) (put d 0 (flat (widest rs) rs)) d
+
+-- the BODY layer d afterwards: as the Rust starts it, a blank for each character of a row and ░ for each fill character
+unfoldable pub blanksIn : List (List ℕ) → List ℕ → List ℕ
+blanksIn rs d = choose (fits rs) (put d 0 (flat (widest rs) (map blank rs))) d
 
 -- the rows of the sheet in the bytes from an index on
 abbrev pub rowsAt : List ℕ → ℕ → List (List ℕ)

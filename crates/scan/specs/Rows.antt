@@ -42,6 +42,10 @@ widest (r ∷ rs) = max (length r) (widest rs)
 abbrev pub fill : ℕ → List ℕ → List ℕ
 fill w r = r ++ replicate (w - length r) ░
 
+-- a blank for each character of a row
+abbrev pub blank : List ℕ → List ℕ
+blank r = replicate (length r) 32
+
 -- the rows, one behind the other, each filled to w
 unfoldable pub flat : ℕ → List (List ℕ) → List ℕ
 flat w [] = []

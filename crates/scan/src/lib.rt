@@ -1,16 +1,17 @@
-// From the bytes of a sheet to the TEXT layer.
+// From the bytes of a sheet to the layers TEXT and BODY.
 use model::Refusal;
 use model::box_drawing;
 use model::limits;
 use unicode::Decoded;
 ghost use mathlib.Core.Path.{_≡_};
-ghost use Prim.Native.Nat.{_+_, _≤_, max};
+ghost use mathlib.Core.List.{map};
+ghost use Prim.Native.Nat.{_+_, _*_, _≤_, max};
 ghost use lib.ListN.{length, replicate};
 ghost use Rattle.lists.specs.Put.{put};
 ghost use Rattle.model.specs.Limits.{canvasSize};
 ghost use Rattle.unicode.specs.Lines.{codesAt};
-ghost use Rattle.scan.specs.Rows.{begins, upTo, widest, fill, flat};
-ghost use Rattle.scan.specs.Canvas.{sizeOf, textIn, rowsAt, scannedIn, Ended};
+ghost use Rattle.scan.specs.Rows.{begins, upTo, widest, fill, blank, flat};
+ghost use Rattle.scan.specs.Canvas.{sizeOf, textIn, blanksIn, rowsAt, scannedIn, Ended};
 ghost use Rattle.scan.specs.Found.{textsAt, StartAt, Measured};
 
 // Whether the text of `count` code points at a place begins with ┌.
@@ -115,31 +116,43 @@ fn put_codes(s: &[u8], from: usize, count: usize, out: &mut [u32], base: usize)
     }
 }
 
-// As many ░ as n, into out from `base` on.
-fn put_fill(out: &mut [u32], base: usize, n: usize)
+// A code point, n times, into out from `base` on.
+fn put_same(out: &mut [u32], base: usize, n: usize, code: u32)
     requires { ⌜ base + n ≤ length (now out) ⌝ }
-    ensures { λ _. ⌜ now (out .exit) ≡ put (now (out .entry)) base (replicate n 0x2591) ⌝ }
+    ensures { λ _. ⌜ now (out .exit) ≡ put (now (out .entry)) base (replicate n code) ⌝ }
 {
     let mut i: usize = 0;
     while i < n {
-        out[base + i] = box_drawing::LIGHT_SHADE;
+        out[base + i] = code;
         i += 1;
     }
 }
 
-// A row, filled to `width`.
-fn put_row(s: &[u8], from: usize, count: usize, width: usize, out: &mut [u32], base: usize)
-    requires { ⌜ (count ≡ length (codesAt (now s) from count)) × (count ≤ width) × (base + width ≤ length (now out)) ⌝ }
-    ensures { λ _. ⌜ now (out .exit) ≡ put (now (out .entry)) base (fill width (codesAt (now (s .entry)) from count)) ⌝ }
+// A row, filled to `width`: its code points into TEXT, a blank for each into BODY.
+fn put_row(
+    s: &[u8],
+    from: usize,
+    count: usize,
+    width: usize,
+    text: &mut [u32],
+    body: &mut [u32],
+    base: usize,
+)
+    requires { ⌜ (count ≡ length (codesAt (now s) from count)) × (count ≤ width) × (base + width ≤ length (now text)) × (base + width ≤ length (now body)) ⌝ }
+    ensures text { λ _. ⌜ now (text .exit) ≡ put (now (text .entry)) base (fill width (codesAt (now (s .entry)) from count)) ⌝ }
+    ensures body { λ _. ⌜ now (body .exit) ≡ put (now (body .entry)) base (fill width (blank (codesAt (now (s .entry)) from count))) ⌝ }
 {
-    put_codes(s, from, count, out, base);
-    put_fill(out, base + count, width - count);
+    put_codes(s, from, count, text, base);
+    put_same(text, base + count, width - count, box_drawing::LIGHT_SHADE);
+    put_same(body, base, count, box_drawing::SPACE);
+    put_same(body, base + count, width - count, box_drawing::LIGHT_SHADE);
 }
 
-// The rows of the sheet whose first line starts at a place, into out, each filled to `width`.
-fn write_rows(s: &[u8], at: usize, width: usize, out: &mut [u32])
-    requires { ⌜ (at ≤ length (now s)) × (widest (upTo (textsAt (now s) at)) ≤ width) × (length (flat width (upTo (textsAt (now s) at))) ≤ length (now out)) ⌝ }
-    ensures { λ _. ⌜ now (out .exit) ≡ put (now (out .entry)) 0 (flat width (upTo (textsAt (now (s .entry)) at))) ⌝ }
+// The rows of the sheet whose first line starts at a place, into both layers, each filled to `width`.
+fn write_rows(s: &[u8], at: usize, width: usize, text: &mut [u32], body: &mut [u32])
+    requires { ⌜ (at ≤ length (now s)) × (widest (upTo (textsAt (now s) at)) ≤ width) × (length (upTo (textsAt (now s) at)) * width ≤ length (now text)) × (length (upTo (textsAt (now s) at)) * width ≤ length (now body)) ⌝ }
+    ensures text { λ _. ⌜ now (text .exit) ≡ put (now (text .entry)) 0 (flat width (upTo (textsAt (now (s .entry)) at))) ⌝ }
+    ensures body { λ _. ⌜ now (body .exit) ≡ put (now (body .entry)) 0 (flat width (map blank (upTo (textsAt (now (s .entry)) at)))) ⌝ }
 {
     let mut p = at;
     let mut base: usize = 0;
@@ -150,7 +163,7 @@ fn write_rows(s: &[u8], at: usize, width: usize, out: &mut [u32])
         let last = l.last;
         p = l.next;
         if 0 < count {
-            put_row(s, from, count, width, out, base);
+            put_row(s, from, count, width, text, body, base);
             if last == box_drawing::LIGHT_UP_AND_LEFT {
                 return;
             }
@@ -165,12 +178,13 @@ pub enum Scanned {
     NotScanned(Refusal),
 }
 
-// Scans the first sheet in a text from an index on, into the TEXT layer.
-pub fn scan(s: &[u8], from: usize, out: &mut [u32]) -> Scanned
-    requires { ⌜ (from ≤ length (now s)) × (canvasSize ≤ length (now out)) ⌝ }
+// Scans the first sheet in a text from an index on, into the layers TEXT and BODY.
+pub fn scan(s: &[u8], from: usize, text: &mut [u32], body: &mut [u32]) -> Scanned
+    requires { ⌜ (from ≤ length (now s)) × (canvasSize ≤ length (now text)) × (canvasSize ≤ length (now body)) ⌝ }
     ensures answer { λ r. ⌜ scannedIn r ≡ sizeOf (rowsAt (now (s .entry)) from) ⌝ }
     ensures end { λ r. ⌜ Ended r (now (s .entry)) from ⌝ }
-    ensures layer { λ _. ⌜ now (out .exit) ≡ textIn (rowsAt (now (s .entry)) from) (now (out .entry)) ⌝ }
+    ensures layer { λ _. ⌜ now (text .exit) ≡ textIn (rowsAt (now (s .entry)) from) (now (text .entry)) ⌝ }
+    ensures body { λ _. ⌜ now (body .exit) ≡ blanksIn (rowsAt (now (s .entry)) from) (now (body .entry)) ⌝ }
 {
     let at = sheet_start(s, from);
     let m = measure(s, at);
@@ -183,6 +197,6 @@ pub fn scan(s: &[u8], from: usize, out: &mut [u32]) -> Scanned
     if limits::CANVAS_COLUMNS < columns {
         return Scanned::NotScanned(Refusal::CanvasTooLarge(rows, columns));
     }
-    write_rows(s, at, columns, out);
+    write_rows(s, at, columns, text, body);
     Scanned::Canvas(rows, columns, end)
 }

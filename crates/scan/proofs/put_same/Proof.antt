@@ -1,18 +1,18 @@
--- `scan::put_fill` meets its contract.
+-- `scan::put_same` meets its contract.
 use Prim.Native.Nat.{_-_}
 use borrow.Author.Needs.{needs}
 use Rattle.scan.proofs.RowPutting.{Filling, filling-start, filling-more, filling-done}
-use Rattle.scan.proofs.put_fill.Statement.{statement}
-use Rattle.scan.proofs.put_fill.Tie as tie
+use Rattle.scan.proofs.put_same.Statement.{statement}
+use Rattle.scan.proofs.put_same.Tie as tie
 
 abbrev Inv-loop : tie.InvT-loop
-Inv-loop out₀ base n i₀ out i = Filling out₀ base n out i
+Inv-loop out₀ base n code i₀ out i = Filling out₀ base n code out i
 
 abbrev μ-loop : tie.MeasureT-loop
-μ-loop out₀ base n i₀ out i = n - i
+μ-loop out₀ base n code i₀ out i = n - i
 
 loop-holds : tie.Need-loop-holds Inv-loop μ-loop
-loop-holds c = filling-start _ _ _
+loop-holds c = filling-start _ _ _ _
 
 add-out : tie.Need-add-out Inv-loop μ-loop
 add-out c = search needs
@@ -38,8 +38,8 @@ same-length c = search needs
 returns : tie.Need-returns Inv-loop μ-loop
 returns c = filling-done (c .before .loop .inv) (c .loop-test .left)
 
-pub put-fill-spec : {M : Type 1} → statement M
-put-fill-spec =
+pub put-same-spec : {M : Type 1} → statement M
+put-same-spec =
     tie.close
     (tie.spec
     Inv-loop
