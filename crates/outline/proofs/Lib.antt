@@ -1,0 +1,3 @@
+-- Laws of the outline.
+pub mod OutlineLaws
+pub mod Examples

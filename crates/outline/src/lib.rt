@@ -1,0 +1,174 @@
+// The outline of a table on the TEXT layer: whether it has a name, its crossings and its body.
+pub mod double_lines;
+
+use double_lines::*;
+use model::Rect;
+use model::Refusal;
+use model::box_drawing::*;
+use walks::Direction;
+use walks::Framed;
+use walks::Walked;
+ghost use mathlib.Core.Path.{_≡_};
+ghost use Prim.Native.Nat.{_*_, _≤_, _<_};
+ghost use lib.ListN.{length};
+ghost use Rattle.lists.specs.Picture.{canvas};
+ghost use Rattle.walks.specs.Frame.{Place, framedIn};
+ghost use Rattle.walks.specs.Walk.{stepsIn};
+ghost use Rattle.outline.specs.Outline.{searchOf, namedOf, crossingBy, bodyOf, tableOf, outlineOf};
+ghost use Rattle.outline.specs.Answers.{placeIn, namedIn, outlineIn, WalkFits};
+
+// A place in row order, or a character that is missing.
+enum Found {
+    Place(usize),
+    NotFound(Refusal),
+}
+
+// Whether a name stands above the table, or why that cannot be told.
+enum Named {
+    Told(bool),
+    NotNamed(Refusal),
+}
+
+// The column or row of a crossing, or none.
+pub enum Crossing {
+    At(usize),
+    Nowhere,
+}
+
+// Whether a name stands above the table; the main crossing's column and row; the column of the annotation crossing
+// on its right and the row of that below it; the body.
+pub struct Outline {
+    pub named: bool,
+    pub x: usize,
+    pub y: usize,
+    pub right: Crossing,
+    pub below: Crossing,
+    pub body: Rect,
+}
+
+pub enum Outlined {
+    Table(Outline),
+    NotOutlined(Refusal),
+}
+
+// The first place at which a character stands.
+fn search(layer: &[u32], w: usize, h: usize, code: u32) -> Found
+    requires { ⌜ h * w ≤ length (now layer) ⌝ }
+    ensures { λ r. ⌜ placeIn r ≡ searchOf code (canvas w h (now (layer .entry))) w h ⌝ }
+{
+    let size = h * w;
+    let mut i = 0;
+    while i < size {
+        if layer[i] == code {
+            return Found::Place(i);
+        }
+        i += 1;
+    }
+    Found::NotFound(Refusal::CharactersNotFound(code))
+}
+
+// Whether a name stands above a table whose first ╥ lies in this row.
+fn name_above(layer: &[u32], w: usize, h: usize, row: usize) -> Named
+    requires { ⌜ Place w h 0 0 (length (now layer)) ⌝ }
+    ensures { λ r. ⌜ namedIn r ≡ namedOf (canvas w h (now (layer .entry))) w h row ⌝ }
+{
+    if row == 0 {
+        return Named::Told(false);
+    }
+    match walks::recognize_name(layer, w, h) {
+        Framed::Closed(_) => Named::Told(true),
+        Framed::NotFramed(r) => Named::NotNamed(r),
+    }
+}
+
+// The crossing that a walk found.
+fn crossed(from: usize, walked: Walked) -> Crossing
+    requires { ⌜ WalkFits from walked ⌝ }
+    ensures { λ r. ⌜ r ≡ crossingBy from (stepsIn walked) ⌝ }
+{
+    match walked {
+        Walked::Steps(k) => Crossing::At(from + k),
+        Walked::Stopped(_) => Crossing::Nowhere,
+    }
+}
+
+// The body of the table whose main crossing stands in column x of row y.
+fn recognize_body(layer: &[u32], w: usize, h: usize, x: usize, y: usize) -> Framed
+    requires { ⌜ Place w h x y (length (now layer)) ⌝ }
+    ensures { λ r. ⌜ framedIn r ≡ bodyOf (canvas w h (now (layer .entry))) w h x y ⌝ }
+{
+    let up = match walks::go(Direction::Up, layer, w, h, x, y, &BODY_TOP, &TO_TOP) {
+        Walked::Steps(k) => k,
+        Walked::Stopped(r) => return Framed::NotFramed(r),
+    };
+    let down = match walks::go(Direction::Down, layer, w, h, x, y, &BODY_BOTTOM, &TO_BOTTOM) {
+        Walked::Steps(k) => k,
+        Walked::Stopped(r) => return Framed::NotFramed(r),
+    };
+    let left = match walks::go(Direction::Left, layer, w, h, x, y, &BODY_LEFT, &TO_LEFT) {
+        Walked::Steps(k) => k,
+        Walked::Stopped(r) => return Framed::NotFramed(r),
+    };
+    let right = match walks::go(Direction::Right, layer, w, h, x, y, &BODY_RIGHT, &TO_RIGHT) {
+        Walked::Steps(k) => k,
+        Walked::Stopped(r) => return Framed::NotFramed(r),
+    };
+    Framed::Closed(Rect {
+        left: x - left,
+        top: y - up,
+        right: x + right + 1,
+        bottom: y + down + 1,
+    })
+}
+
+// The table whose main crossing stands at a place.
+fn recognize_table(layer: &[u32], w: usize, h: usize, has_name: bool, cross: usize) -> Outlined
+    requires { ⌜ (cross < h * w) × (h * w ≤ length (now layer)) ⌝ }
+    ensures { λ r. ⌜ outlineIn r ≡ tableOf (canvas w h (now (layer .entry))) w h «has_name» cross ⌝ }
+{
+    let x = cross % w;
+    let y = cross / w;
+    let body = match recognize_body(layer, w, h, x, y) {
+        Framed::Closed(r) => r,
+        Framed::NotFramed(r) => return Outlined::NotOutlined(r),
+    };
+    let right = crossed(
+        x,
+        walks::go(Direction::Right, layer, w, h, x, y, &CROSSING, &ACROSS),
+    );
+    let below = crossed(
+        y,
+        walks::go(Direction::Down, layer, w, h, x, y, &CROSSING, &DOWN),
+    );
+    Outlined::Table(Outline {
+        named: has_name,
+        x,
+        y,
+        right,
+        below,
+        body,
+    })
+}
+
+// The outline of the table on a layer of w columns and h rows.
+pub fn recognize_outline(layer: &[u32], w: usize, h: usize) -> Outlined
+    requires { ⌜ h * w ≤ length (now layer) ⌝ }
+    ensures { λ r. ⌜ outlineIn r ≡ outlineOf (canvas w h (now (layer .entry))) w h ⌝ }
+{
+    match search(layer, w, h, LIGHT_DOWN_AND_RIGHT) {
+        Found::Place(_) => {}
+        Found::NotFound(r) => return Outlined::NotOutlined(r),
+    }
+    let edge = match search(layer, w, h, DOWN_DOUBLE_AND_HORIZONTAL_SINGLE) {
+        Found::Place(i) => i,
+        Found::NotFound(r) => return Outlined::NotOutlined(r),
+    };
+    let has_name = match name_above(layer, w, h, edge / w) {
+        Named::Told(b) => b,
+        Named::NotNamed(r) => return Outlined::NotOutlined(r),
+    };
+    match search(layer, w, h, DOUBLE_VERTICAL_AND_HORIZONTAL) {
+        Found::Place(i) => recognize_table(layer, w, h, has_name, i),
+        Found::NotFound(r) => Outlined::NotOutlined(r),
+    }
+}
