@@ -1,3 +1,4 @@
 -- Laws of rects in a slice and of regions.
 pub mod RectsLaws
 pub mod RegionLaws
+pub mod InsideLaws

@@ -28,7 +28,7 @@ is-corner-requires : tie.Need-is-corner-requires
 is-corner-requires c κs = search needs
 
 add-region-requires : tie.Need-add-region-requires
-add-region-requires c κs = 
+add-region-requires c κs =
     let i = c .before .before in
     let t = i .before .before .before .before in
     (t .pre .0, t .pre .1, t .pre .2 (sym (i .is-corner .ensures) ∙ c .before .if1 .taken))
@@ -37,7 +37,7 @@ same-length : tie.Need-same-length
 same-length c = search needs
 
 returns : tie.Need-returns
-returns c = 
+returns c =
     let g = c .before .before in
     let i = g .before .before .before in
     g .add-region .ensures ∙ rw (corner i (g .before .before .if1 .taken))

@@ -37,7 +37,7 @@ div-recognize-region : tie.Need-div-recognize-region
 div-recognize-region c = some (c .before .before)
 
 recognize-region-requires : tie.Need-recognize-region-requires
-recognize-region-requires c κs = 
+recognize-region-requires c κs =
     let t = c .before .before in
     place-of (t .args .w) (t .args .h) (t .args .i) (length (t .args .layer .now)) (t .pre .0) (t .pre .1)
 
@@ -45,12 +45,14 @@ enum-known-r : tie.Need-enum-known-r
 enum-known-r c = search needs
 
 put-rect-requires : tie.Need-put-rect-requires
-put-rect-requires c κs = 
+put-rect-requires c κs =
     let g = c .before .before .before .before in
     let t = g .before .before .before in
-    let a = t .args in
-    (t .pre .2, frame-small thin (canvas (a .w) (a .h) (a .layer .now)) (a .w) (a .h) (a .i % a .w) (a .i / a .w) (length (a .layer .now)) _ (t .pre .0)
-    (place-of (a .w) (a .h) (a .i) (length (a .layer .now)) (t .pre .0) (t .pre .1)) (sym (g .recognize-region .ensures) ∙ ap framedIn (c .before .before .r .given .1)))
+    let a = t .args in (
+      t .pre .2,
+      frame-small thin (canvas (a .w) (a .h) (a .layer .now)) (a .w) (a .h) (a .i % a .w) (a .i / a .w) (length (a .layer .now)) _ (t .pre .0)
+          (place-of (a .w) (a .h) (a .i) (length (a .layer .now)) (t .pre .0) (t .pre .1)) (sym (g .recognize-region .ensures) ∙ ap framedIn (c .before .before .r .given .1)),
+    )
 
 add-t16 : tie.Need-add-t16
 add-t16 c = search needs
@@ -62,7 +64,7 @@ same-length : tie.Need-same-length
 same-length c = search needs
 
 returns : tie.Need-returns
-returns c = 
+returns c =
     let p = c .before .before in
     let g = p .before .before .before .before .before in
     ap ok (p .put-rect .ensures) ∙ added g (p .before .before .before .r .given .1)

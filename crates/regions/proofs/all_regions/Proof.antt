@@ -25,7 +25,7 @@ loop-holds : tie.Need-loop-holds Inv-loop μ-loop
 loop-holds c = adding-start _ _ _ _ _ (c .before .before .pre .1)
 
 add-if-corner-requires : tie.Need-add-if-corner-requires Inv-loop μ-loop
-add-if-corner-requires c κs = 
+add-if-corner-requires c κs =
     let l = c .before .before in
     let t = l .before .before .before in
     let a = t .args in
@@ -41,7 +41,7 @@ same-length : tie.Need-same-length Inv-loop μ-loop
 same-length c = search needs
 
 returns : tie.Need-returns Inv-loop μ-loop
-returns c = 
+returns c =
     let g = c .before .before .before .before .before in
     adding-out (g .before .before .before .loop .inv) (g .before .before .loop-test .taken) _ _ (g .add-if-corner .ensures) _ (c .before .r .given .1)
 
@@ -52,7 +52,7 @@ loop-less : tie.Need-loop-less Inv-loop μ-loop
 loop-less c = search needs
 
 loop-again : tie.Need-loop-again Inv-loop μ-loop
-loop-again c = 
+loop-again c =
     let g = c .before .before .before .before .before in
     adding-more (g .before .before .before .loop .inv) (g .before .before .loop-test .taken) _ _ (g .add-if-corner .ensures) _ (c .before .m .given .1) (g .add-if-corner .kept .1 .1 .1 .1 .0)
 
