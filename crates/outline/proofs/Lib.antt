@@ -1,3 +1,4 @@
 -- Laws of the outline.
 pub mod OutlineLaws
+pub mod InsideLaws
 pub mod Examples
