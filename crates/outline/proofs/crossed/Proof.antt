@@ -10,7 +10,7 @@ enum-known-walked : tie.Need-enum-known-walked
 enum-known-walked c = search needs
 
 add-t5 : tie.Need-add-t5
-add-t5 c = 
+add-t5 c =
     let t = c .before .before .before in
     record { fits = subst (WalkFits (t .args .from)) (c .before .walked .given .1) (t .pre) }
 

@@ -9,7 +9,7 @@ use Rattle.outline.proofs.name_above.Statement.{statement}
 use Rattle.outline.proofs.name_above.Tie as tie
 
 returns : tie.Need-returns
-returns c = 
+returns c =
     let a = c .before .before .args in
     none-above _ _ _ ∙ ap (namedOf _ (a .w) (a .h)) (sym (c .if1 .taken))
 
@@ -23,12 +23,12 @@ enum-known-r : tie.Need-enum-known-r
 enum-known-r c = search needs
 
 returns-2 : tie.Need-returns-2
-returns-2 c = 
+returns-2 c =
     let g = c .before .before in
     name-above _ _ _ _ (omega (arith, g .before .if1 .left)) _ (sym (g .recognize-name .ensures) ∙ ap framedIn (c .enum-told .given .1))
 
 returns-3 : tie.Need-returns-3
-returns-3 c = 
+returns-3 c =
     let g = c .before .before .before in
     name-refused _ _ _ _ (omega (arith, g .before .if1 .left)) _ (sym (g .recognize-name .ensures) ∙ ap framedIn (c .before .r .given .1))
 

@@ -77,7 +77,7 @@ enum-known-r : tie.Need-enum-known-r
 enum-known-r c = search needs
 
 returns : tie.Need-returns
-returns c = 
+returns c =
     let g = c .before .before .before in
     let t = s1 g in
     body-up (P t) (t .args .w) (t .args .h) (t .args .x) (t .args .y) _ (sym (g .go .ensures) ∙ ap stepsIn (c .before .r .given .1))
@@ -98,7 +98,7 @@ enum-known-r-2 : tie.Need-enum-known-r-2
 enum-known-r-2 c = search needs
 
 returns-2 : tie.Need-returns-2
-returns-2 c = 
+returns-2 c =
     let g = c .before .before .before in
     let t = s2 g in
     body-down (P t) (t .args .w) (t .args .h) (t .args .x) (t .args .y) _ _ (did1 (t2 g)) (sym (g .go2 .ensures) ∙ ap stepsIn (c .before .r2 .given .1))
@@ -119,7 +119,7 @@ enum-known-r-3 : tie.Need-enum-known-r-3
 enum-known-r-3 c = search needs
 
 returns-3 : tie.Need-returns-3
-returns-3 c = 
+returns-3 c =
     let g = c .before .before .before in
     let t = s3 g in
     body-left (P t) (t .args .w) (t .args .h) (t .args .x) (t .args .y) _ _ _ (did1 (t2 (w2 (t3 g)))) (did2 (t3 g)) (sym (g .go3 .ensures) ∙ ap stepsIn (c .before .r3 .given .1))
@@ -140,7 +140,7 @@ enum-known-r-4 : tie.Need-enum-known-r-4
 enum-known-r-4 c = search needs
 
 returns-4 : tie.Need-returns-4
-returns-4 c = 
+returns-4 c =
     let g = c .before .before .before in
     let t = s4 g in
     let d = t3 (w3 (t4 g)) in
@@ -165,7 +165,7 @@ add-t56 : tie.Need-add-t56
 add-t56 c = omega (arith, found-bound _ _ _ _ _ (did2 (t3 (w3 (t4 (w4 c))))), s4 (w4 c) .pre .row, s4 (w4 c) .fits .h .fits)
 
 returns-5 : tie.Need-returns-5
-returns-5 c = 
+returns-5 c =
     let t = s4 (w4 c) in
     let l = t4 (w4 c) in
     let d = t3 (w3 l) in

@@ -69,7 +69,7 @@ enum-known-r : tie.Need-enum-known-r
 enum-known-r c = search needs
 
 returns : tie.Need-returns
-returns c = 
+returns c =
     let g = c .before .before .before in
     let t = s1 g in
     no-corner (P t) (t .args .w) (t .args .h) _ (sym (g .search .ensures) ∙ ap placeIn (c .before .r .given .1))
@@ -84,7 +84,7 @@ enum-known-r-2 : tie.Need-enum-known-r-2
 enum-known-r-2 c = search needs
 
 returns-2 : tie.Need-returns-2
-returns-2 c = 
+returns-2 c =
     let g = c .before .before .before in
     let t = s2 g in
     no-edge (P t) (t .args .w) (t .args .h) _ (did1 (g .before)) _ (sym (g .search2 .ensures) ∙ ap placeIn (c .before .r2 .given .1))
@@ -93,7 +93,7 @@ div-name-above : tie.Need-div-name-above
 div-name-above c = let t = s2 (w2 c) in columns (t .args .w) (t .args .h) _ (edge-in c)
 
 name-above-requires : tie.Need-name-above-requires
-name-above-requires c κs = 
+name-above-requires c κs =
     let t = s2 (w2 c) in
     record { column = columns (t .args .w) (t .args .h) _ (edge-in c); row = omega (arith, row-in (t .args .w) (t .args .h) _ (edge-in c)); size = t .pre }
 
@@ -104,7 +104,7 @@ enum-known-r-3 : tie.Need-enum-known-r-3
 enum-known-r-3 c = search needs
 
 returns-3 : tie.Need-returns-3
-returns-3 c = 
+returns-3 c =
     let g = c .before .before .before in
     let t = s3 g in
     no-name (P t) (t .args .w) (t .args .h) _ (did1 (w2 (g .before) .before)) _ (did2 (g .before)) _ (sym (g .name-above .ensures) ∙ ap namedIn (c .before .r3 .given .1))
@@ -122,7 +122,7 @@ enum-known-r-4 : tie.Need-enum-known-r-4
 enum-known-r-4 c = search needs
 
 returns-4 : tie.Need-returns-4
-returns-4 c = 
+returns-4 c =
     let f = c .before in
     let n = w4 f .before in
     let d = w3 n .before in
@@ -130,7 +130,7 @@ returns-4 c =
     c .recognize-table .ensures ∙ table-is (P t) (t .args .w) (t .args .h) _ (did1 (w2 d .before)) _ (did2 d) _ (did3 n) _ (did4 f)
 
 returns-5 : tie.Need-returns-5
-returns-5 c = 
+returns-5 c =
     let g = c .before .before .before in
     let t = s4 g in
     let n = g .before in

@@ -37,7 +37,7 @@ enum-known-r-2 : tie.Need-enum-known-r-2
 enum-known-r-2 c = search needs
 
 returns : tie.Need-returns
-returns c = 
+returns c =
     let g = c .before .before .before in
     no-body _ _ _ _ _ _ (sym (g .recognize-body .ensures) ∙ ap framedIn (c .before .r2 .given .1))
 
@@ -51,7 +51,7 @@ go-requires : tie.Need-go-requires
 go-requires c κs = spot (start (c .before .before))
 
 crossed-requires : tie.Need-crossed-requires
-crossed-requires c κs = 
+crossed-requires c κs =
     let t = start (c .before .before .before) in
     walk-fits _ _ _ _ (t .args .cross % t .args .w) (c .go .result) (omega (arith, spot t .column, t .fits .w .fits)) (c .go .ensures)
 
@@ -65,12 +65,12 @@ go-requires-2 : tie.Need-go-requires-2
 go-requires-2 c κs = spot (start (c .before .before .before .before .before .before))
 
 crossed-requires-2 : tie.Need-crossed-requires-2
-crossed-requires-2 c κs = 
+crossed-requires-2 c κs =
     let t = start (c .before .before .before .before .before .before .before) in
     walk-fits _ _ _ _ (t .args .cross / t .args .w) (c .go2 .result) (omega (arith, spot t .row, t .fits .h .fits)) (c .go2 .ensures)
 
 returns-2 : tie.Need-returns-2
-returns-2 c = 
+returns-2 c =
     let b = c .before .before .before .before in
     let k = b .before .before .before .before in
     table-made _ _ _ _ _ _ (sym (k .before .before .before .recognize-body .ensures) ∙ ap framedIn (k .before .r .given .1)) (b .before .go .result) (c .before .go2 .result)

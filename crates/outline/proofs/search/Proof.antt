@@ -27,7 +27,7 @@ shared-slice-read-if1 : tie.Need-shared-slice-read-if1 Inv-loop μ-loop
 shared-slice-read-if1 c = search needs
 
 returns : tie.Need-returns Inv-loop μ-loop
-returns c = 
+returns c =
     let t = c .before .before in
     let a = t .before .before .args in
     searching-found (t .before .loop .inv) (t .loop-test .taken) (at-canvas (a .w) (a .h) (t .before .loop .i) (t .loop-test .taken) (a .layer .now) ∙ c .if1 .taken)
@@ -39,7 +39,7 @@ loop-less : tie.Need-loop-less Inv-loop μ-loop
 loop-less c = search needs
 
 loop-again : tie.Need-loop-again Inv-loop μ-loop
-loop-again c = 
+loop-again c =
     let t = c .before .before in
     let a = t .before .before .args in
     searching-more (t .before .loop .inv) (t .loop-test .taken) (λ e. c .if1 .left (sym (at-canvas (a .w) (a .h) (t .before .loop .i) (t .loop-test .taken) (a .layer .now)) ∙ e))

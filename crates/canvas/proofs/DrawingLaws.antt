@@ -1,0 +1,80 @@
+-- From the scan, the outline and the layers to what drawing a sheet promises.
+use mathlib.Core.Path.{_≡_, refl, sym, ap, _∙_}
+use mathlib.Core.Bool.{true}
+use mathlib.Core.List.{List}
+use Prim.Native.Nat.{ℕ, _*_, _≤_, _<_}
+use native.Mathlib.Omega.{arith}
+use lib.ListN.{length}
+use Rattle.lists.specs.Answer.{ok, refused, _>>=_}
+use Rattle.lists.specs.Picture.{Picture, canvas}
+use Rattle.model.specs.Limits.{canvasSize}
+use Rattle.model.specs.Refusals.{Reading}
+use Rattle.model.specs.declared.Rect.{Rect}
+use Rattle.model.specs.declared.Refusal.{Refusal}
+use Rattle.layers.specs.Body.{bodyPicture}
+use Rattle.layers.specs.Grid.{gridPicture}
+use Rattle.layers.specs.Sizes.{LayersOf, BodyIn}
+use Rattle.layers.specs.Thin.{thinPicture}
+use Rattle.outline.specs.Outline.{outlineOf}
+use Rattle.outline.specs.declared.Outline.{Outline}
+use Rattle.outline.proofs.InsideLaws.{outline-inside}
+use Rattle.scan.specs.Canvas.{Size, fits, sizeOf, textIn, blanksIn, scannedIn}
+use Rattle.scan.specs.Rows.{widest, flat}
+use Rattle.scan.specs.declared.Scanned.the-variants.{Canvas, NotScanned}
+use Rattle.scan.proofs.Answers.{scanned-size, fits-size}
+use Rattle.scan.proofs.TextLayer.{text-canvas, blanks-canvas}
+use Rattle.canvas.specs.Layers.{textLayer, drawingOf}
+use Rattle.canvas.specs.Drawn.{Shown}
+
+pub scan-refused : (rs : List (List ℕ)) (r : Refusal) → scannedIn (NotScanned r) ≡ sizeOf rs → refused r ≡ drawingOf rs
+unfolding drawingOf
+scan-refused rs r e = rw (← e)
+
+module _ (rs : List (List ℕ)) (h w end : ℕ) (e : scannedIn (Canvas h w end) ≡ sizeOf rs) where
+  pub canvas-fits : h * w ≤ canvasSize
+  canvas-fits = let q = scanned-size rs h w end e in rw (q .1, q .2) (fits-size rs (q .0) .2)
+
+  pub columns-fit : w ≤ 65536
+  columns-fit = let q = scanned-size rs h w end e in omega (arith, fits-size rs (q .0))
+
+  pub rows-fit : h ≤ 65536
+  rows-fit = let q = scanned-size rs h w end e in omega (arith, fits-size rs (q .0))
+
+  module _ (d t : List ℕ) (f : t ≡ textIn rs d) where
+    pub text-shown : canvas w h t ≡ textLayer rs
+    text-shown = let q = scanned-size rs h w end e in rw (q .1, q .2, f) (text-canvas rs d (q .0))
+
+    outline-is : outlineOf (canvas w h t) w h ≡ drawingOf rs
+    unfolding drawingOf
+    outline-is = rw (← e, text-shown)
+
+    pub outline-refused : (r : Refusal) → refused r ≡ outlineOf (canvas w h t) w h → refused r ≡ drawingOf rs
+    outline-refused r g = g ∙ outline-is
+
+    pub outlined : (o : Outline) → ok o ≡ outlineOf (canvas w h t) w h → ok o ≡ drawingOf rs
+    outlined o g = g ∙ outline-is
+
+    pub body-in : (o : Outline) → ok o ≡ outlineOf (canvas w h t) w h → BodyIn w h (o .body)
+    body-in o g =
+        let b = outline-inside (canvas w h t) w h o (sym g) .body in
+        record { wide = omega (arith, b .left, b .right); within = b .columns; tall = omega (arith, b .top, b .bottom); inside = b .rows }
+
+    -- the four layers
+    pub shown : (r : Rect) (c b m b' g : List ℕ) → b ≡ blanksIn rs c
+        → canvas w h m ≡ thinPicture w h (canvas w h t)
+        → canvas w h b' ≡ bodyPicture r (thinPicture w h (canvas w h t)) (canvas w h b)
+        → canvas w h g ≡ gridPicture r (bodyPicture r (thinPicture w h (canvas w h t)) (canvas w h b))
+        → Shown rs h w r t m b' g
+    shown r c b m b' g k i j l =
+        let q = scanned-size rs h w end e in
+        let x = text-shown in
+        let y : canvas w h b ≡ canvas (widest rs) (length rs) (blanksIn rs c) = rw (q .1, q .2, k) in
+        let z = y ∙ blanks-canvas rs c (q .0) in
+        record {
+          rows = q .1;
+          columns = q .2;
+          text = x;
+          thin = i ∙ rw (x, q .1, q .2);
+          body = j ∙ rw (x, z, q .1, q .2);
+          grid = l ∙ rw (x, z, q .1, q .2);
+        }

@@ -1,0 +1,2 @@
+-- Laws of the canvas.
+pub mod DrawingLaws

@@ -1,0 +1,37 @@
+-- The layers of the rows of a sheet, as pictures: document 01, "Canvas".
+use mathlib.Core.List.{List, map}
+use Prim.Native.Nat.{ℕ}
+use lib.ListN.{length}
+use Rattle.lists.specs.Answer.{ok, refused, _>>=_}
+use Rattle.lists.specs.Picture.{Picture, canvas}
+use Rattle.model.specs.Refusals.{Reading}
+use Rattle.model.specs.declared.Rect.{Rect}
+use Rattle.layers.specs.Body.{bodyPicture}
+use Rattle.layers.specs.Grid.{gridPicture}
+use Rattle.layers.specs.Thin.{thinPicture}
+use Rattle.outline.specs.Outline.{outlineOf}
+use Rattle.outline.specs.declared.Outline.{Outline}
+use Rattle.scan.specs.Canvas.{Size, sizeOf}
+use Rattle.scan.specs.Rows.{widest, blank, flat}
+
+-- TEXT: the rows, each filled to the longest
+abbrev pub textLayer : List (List ℕ) → Picture
+textLayer rs = canvas (widest rs) (length rs) (flat (widest rs) rs)
+
+-- THIN: double lines as single ones
+abbrev pub thinLayer : List (List ℕ) → Picture
+thinLayer rs = thinPicture (widest rs) (length rs) (textLayer rs)
+
+-- BODY: THIN without the name, over blanks
+abbrev pub bodyLayer : List (List ℕ) → Rect → Picture
+bodyLayer rs r = bodyPicture r (thinLayer rs) (canvas (widest rs) (length rs) (flat (widest rs) (map blank rs)))
+
+-- GRID: the lines of BODY carried across
+abbrev pub gridLayer : List (List ℕ) → Rect → Picture
+gridLayer rs r = gridPicture r (bodyLayer rs r)
+
+-- the outline of the table that some rows draw
+unfoldable pub drawingOf : List (List ℕ) → Reading Outline
+drawingOf rs = do
+  size ← sizeOf rs
+  outlineOf (textLayer rs) (size .width) (size .height)

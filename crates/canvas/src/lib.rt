@@ -1,0 +1,73 @@
+// From the bytes of a sheet to its outline and its four layers.
+use model::Rect;
+use model::Refusal;
+use outline::Outline;
+use outline::Outlined;
+use scan::Scanned;
+ghost use mathlib.Core.Path.{_≡_};
+ghost use Prim.Native.Nat.{_≤_};
+ghost use lib.ListN.{length};
+ghost use Rattle.lists.specs.Picture.{canvas};
+ghost use Rattle.layers.specs.Body.{bodyPicture};
+ghost use Rattle.layers.specs.Grid.{gridPicture};
+ghost use Rattle.layers.specs.Sizes.{LayersOf, BodyIn};
+ghost use Rattle.layers.specs.Thin.{thinPicture};
+ghost use Rattle.scan.specs.Canvas.{rowsAt};
+ghost use Rattle.canvas.specs.Layers.{drawingOf};
+ghost use Rattle.canvas.specs.Drawn.{outlineIn, LayersIn, Ended, Room};
+
+// The canvas's rows and columns, where the text behind the sheet starts, and the outline; or a refusal.
+pub enum Drawing {
+    Drawn(usize, usize, usize, Outline),
+    NotDrawn(Refusal),
+}
+
+// THIN of TEXT, BODY of THIN, GRID of BODY.
+fn make_layers(
+    text: &[u32],
+    thins: &mut [u32],
+    bodies: &mut [u32],
+    grid: &mut [u32],
+    width: usize,
+    rows: usize,
+    r: Rect,
+)
+    requires { ⌜ LayersOf width rows (now text) (now thins) (now bodies) (now grid) × BodyIn width rows r ⌝ }
+    ensures thin { λ _. ⌜ canvas width rows (now (thins .exit)) ≡ thinPicture width rows (canvas width rows (now (text .entry))) ⌝ }
+    ensures body { λ _. ⌜ canvas width rows (now (bodies .exit)) ≡ bodyPicture r (thinPicture width rows (canvas width rows (now (text .entry)))) (canvas width rows (now (bodies .entry))) ⌝ }
+    ensures grid { λ _. ⌜ canvas width rows (now (grid .exit)) ≡ gridPicture r (bodyPicture r (thinPicture width rows (canvas width rows (now (text .entry)))) (canvas width rows (now (bodies .entry)))) ⌝ }
+{
+    layers::make_thin(text, thins, bodies, grid, width, rows);
+    layers::make_body(text, thins, bodies, grid, width, rows, r);
+    layers::make_grid(text, thins, bodies, grid, width, rows, r);
+}
+
+// Draws the first sheet in a text from an index on.
+pub fn draw(
+    s: &[u8],
+    from: usize,
+    text: &mut [u32],
+    thins: &mut [u32],
+    bodies: &mut [u32],
+    grid: &mut [u32],
+) -> Drawing
+    requires { ⌜ (from ≤ length (now s)) × Room (now text) (now thins) (now bodies) (now grid) ⌝ }
+    ensures answer { λ r. ⌜ outlineIn r ≡ drawingOf (rowsAt (now (s .entry)) from) ⌝ }
+    ensures layers { λ r. ⌜ LayersIn r (rowsAt (now (s .entry)) from) (now (text .exit)) (now (thins .exit)) (now (bodies .exit)) (now (grid .exit)) ⌝ }
+    ensures end { λ r. ⌜ Ended r (now (s .entry)) from ⌝ }
+{
+    match scan::scan(s, from, text, bodies) {
+        Scanned::Canvas(rows, columns, end) => match outline::recognize_outline(
+            text,
+            columns,
+            rows,
+        ) {
+            Outlined::Table(o) => {
+                make_layers(text, thins, bodies, grid, columns, rows, o.body);
+                Drawing::Drawn(rows, columns, end, o)
+            }
+            Outlined::NotOutlined(r) => Drawing::NotDrawn(r),
+        },
+        Scanned::NotScanned(r) => Drawing::NotDrawn(r),
+    }
+}
