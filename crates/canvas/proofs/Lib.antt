@@ -1,2 +1,3 @@
 -- Laws of the canvas.
 pub mod DrawingLaws
+pub mod NameIsFirstRegion
