@@ -1,25 +1,23 @@
 -- From the scan, the outline and the layers to what drawing a sheet promises.
-use mathlib.Core.Path.{_≡_, refl, sym, ap, _∙_}
-use mathlib.Core.Bool.{true}
+use mathlib.Core.Path.{_≡_, sym, _∙_}
 use mathlib.Core.List.{List}
-use Prim.Native.Nat.{ℕ, _*_, _≤_, _<_}
+use Prim.Native.Nat.{ℕ, _*_, _≤_}
 use native.Mathlib.Omega.{arith}
 use lib.ListN.{length}
 use Rattle.lists.specs.Answer.{ok, refused, _>>=_}
-use Rattle.lists.specs.Picture.{Picture, canvas}
+use Rattle.lists.specs.Picture.{canvas}
 use Rattle.model.specs.Limits.{canvasSize}
-use Rattle.model.specs.Refusals.{Reading}
 use Rattle.model.specs.declared.Rect.{Rect}
 use Rattle.model.specs.declared.Refusal.{Refusal}
 use Rattle.layers.specs.Body.{bodyPicture}
 use Rattle.layers.specs.Grid.{gridPicture}
-use Rattle.layers.specs.Sizes.{LayersOf, BodyIn}
+use Rattle.layers.specs.Sizes.{BodyIn}
 use Rattle.layers.specs.Thin.{thinPicture}
 use Rattle.outline.specs.Outline.{outlineOf}
 use Rattle.outline.specs.declared.Outline.{Outline}
 use Rattle.outline.proofs.InsideLaws.{outline-inside}
-use Rattle.scan.specs.Canvas.{Size, fits, sizeOf, textIn, blanksIn, scannedIn}
-use Rattle.scan.specs.Rows.{widest, flat}
+use Rattle.scan.specs.Canvas.{sizeOf, textIn, blanksIn, scannedIn}
+use Rattle.scan.specs.Rows.{widest}
 use Rattle.scan.specs.declared.Scanned.the-variants.{Canvas, NotScanned}
 use Rattle.scan.proofs.Answers.{scanned-size, fits-size}
 use Rattle.scan.proofs.TextLayer.{text-canvas, blanks-canvas}

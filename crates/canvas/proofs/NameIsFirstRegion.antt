@@ -1,5 +1,5 @@
 -- The name's box, which is found on TEXT, is the first region of THIN. So the name's text is that region's text.
-use mathlib.Core.Path.{_≡_, refl, sym, ap, _∙_, subst}
+use mathlib.Core.Path.{_≡_, refl, sym, ap, _∙_}
 use mathlib.Core.Bool.{Bool, true, false, _&&_, _||_}
 use mathlib.Core.List.{List, [], _∷_, _++_, append-assoc, append-nil}
 use Prim.Native.Nat.{ℕ, zero, suc, _*_, _/_, _%_, _≤_, _<_}
@@ -9,7 +9,6 @@ use lib.Dec.{eqb, ltb}
 use lib.ListN.{length}
 use borrow.Author.Tests.{eqb-true}
 use Rattle.lists.specs.Answer.{ok, each, those}
-use Rattle.lists.specs.Choose.{choose}
 use Rattle.lists.specs.OneOf.{oneOf}
 use Rattle.lists.specs.Picture.{Picture, at}
 use Rattle.lists.proofs.AnswerLaws.{refused-ok, then-ok}
@@ -19,7 +18,7 @@ use Rattle.model.specs.Limits.{regionCount}
 use Rattle.model.specs.declared.Rect.{Rect}
 use Rattle.layers.specs.Thin.{thinOf, thinPicture}
 use Rattle.regions.specs.Regions.{isCorner, cornersOf, addRegion, regionsBy, regionsOf}
-use Rattle.walks.specs.Frame.{Frame, Starts, rectOf, frameOf}
+use Rattle.walks.specs.Frame.{Frame, Starts, frameOf}
 use Rattle.walks.specs.Kinds.{thin, name}
 use Rattle.walks.proofs.FrameLaws.{accept, accepted, thin-sound}
 

@@ -2,7 +2,7 @@
 use mathlib.Core.List.{List, map}
 use Prim.Native.Nat.{ℕ}
 use lib.ListN.{length}
-use Rattle.lists.specs.Answer.{ok, refused, _>>=_}
+use Rattle.lists.specs.Answer.{_>>=_}
 use Rattle.lists.specs.Picture.{Picture, canvas}
 use Rattle.model.specs.Refusals.{Reading}
 use Rattle.model.specs.declared.Rect.{Rect}
@@ -11,7 +11,7 @@ use Rattle.layers.specs.Grid.{gridPicture}
 use Rattle.layers.specs.Thin.{thinPicture}
 use Rattle.outline.specs.Outline.{outlineOf}
 use Rattle.outline.specs.declared.Outline.{Outline}
-use Rattle.scan.specs.Canvas.{Size, sizeOf}
+use Rattle.scan.specs.Canvas.{sizeOf}
 use Rattle.scan.specs.Rows.{widest, blank, flat}
 
 -- TEXT: the rows, each filled to the longest

@@ -1,15 +1,11 @@
 -- Laws of pictures: two pictures are equal when they agree inside and are 0 outside.
-use mathlib.Core.Path.{_≡_, refl, sym, ap, _∙_, fun-ext}
-use mathlib.Core.Bool.{Bool, true, false, _&&_}
-use mathlib.Core.List.{List}
+use mathlib.Core.Path.{_≡_, sym, ap, _∙_, fun-ext}
 use Prim.Native.Nat.{ℕ, suc, _+_, _*_, _<_, _≤_}
 use native.Mathlib.Nat.{mul-le-mul-right, suc-mul}
 use native.Mathlib.Omega.{arith}
 use lib.Dec.{ltb}
-use lib.ListN.{length, getD}
 use borrow.Author.Tests.{ltb-true, ltb-false, lt-ltb}
-use Rattle.lists.specs.Choose.{choose}
-use Rattle.lists.specs.Picture.{Picture, pic, within, canvas}
+use Rattle.lists.specs.Picture.{Picture, within}
 use Rattle.lists.proofs.Tests.{by-flag}
 
 module _ (w h : ℕ) where

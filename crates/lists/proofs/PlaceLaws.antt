@@ -1,8 +1,7 @@
 -- Laws of the places of a picture in row order.
-use mathlib.Core.Path.{_≡_, sym, ap, _∙_}
-use mathlib.Core.Logic.{_↔_}
+use mathlib.Core.Path.{_≡_, ap, _∙_}
 use mathlib.Core.List.{List}
-use Prim.Native.Nat.{ℕ, zero, suc, _+_, _*_, _/_, _%_, _<_, _≤_}
+use Prim.Native.Nat.{ℕ, zero, suc, _*_, _/_, _%_, _<_}
 use native.Mathlib.Nat.{mod-lt, div-add-mod', div-lt-iff-lt-mul, mul-zero}
 use native.Mathlib.Omega.{arith}
 use lib.ListN.{getD}

@@ -1,12 +1,12 @@
 -- Laws of `put`: how a run of writes goes on, and what writes leave alone.
-use mathlib.Core.Path.{_≡_, refl, sym, ap, _∙_}
-use mathlib.Core.List.{List, [], _∷_, _++_, append-assoc, append-nil}
-use Prim.Native.Nat.{ℕ, suc, _+_, _≤_, _<_}
-use native.Mathlib.Nat.{add-assoc, add-zero, zero-add}
+use mathlib.Core.Path.{_≡_, sym, ap, _∙_}
+use mathlib.Core.List.{List, [], _∷_, _++_, append-assoc}
+use Prim.Native.Nat.{ℕ, _+_, _≤_, _<_}
+use native.Mathlib.Nat.{add-zero, zero-add}
 use native.Mathlib.Numerals.{add-one, add-two, add-three}
 use native.Mathlib.Omega.{arith}
-use lib.ListN.{length, getD, take, drop, set, length-append, length-take, length-drop, take-append-drop}
-use lib.Seq.{take-append-le, drop-append-le, drop-append-add, take-at, drop-at, drop-drop, length-take-le, sets, sets-eq, take-suc, getD-set-same, getD-set-other, take-length, take-all}
+use lib.ListN.{length, getD, take, drop, set, length-append, length-drop, take-append-drop}
+use lib.Seq.{take-append-le, drop-append-le, drop-append-add, take-at, drop-at, drop-drop, length-take-le, sets, sets-eq, take-suc}
 use Rattle.lists.specs.Put.{put}
 
 module _ {A : Type 0} where

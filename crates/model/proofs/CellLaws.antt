@@ -1,6 +1,6 @@
 -- Laws of cells: the number of a cell gives the cell, and a cell turned twice is what it was.
-use mathlib.Core.Path.{_≡_, refl, sym, ap, _∙_}
-use Prim.Native.Nat.{ℕ, zero, suc, _+_, _*_, _/_, _%_, _^_, _<_}
+use mathlib.Core.Path.{_≡_, refl}
+use Prim.Native.Nat.{ℕ, zero, suc, _*_, _/_, _%_, _^_, _<_}
 use native.Mathlib.Omega.{arith}
 use Rattle.model.specs.Cells.{cellOfKind, cellNumber, cellOf, Small, turnedCell}
 use Rattle.model.specs.declared.Cell.{Cell}

@@ -1,6 +1,6 @@
 -- Examples of document 01 (● proved), by computation.
 use mathlib.Core.Path.{_≡_, refl}
-use mathlib.Core.List.{List, [], _∷_}
+use mathlib.Core.List.{[], _∷_}
 use mathlib.Core.Option.{none, some}
 use Rattle.model.specs.Policies.{sameText, byLetters, policyOf}
 use Rattle.model.specs.RuleNumbers.{digits, numberOf}

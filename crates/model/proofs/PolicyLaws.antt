@@ -1,14 +1,12 @@
 -- Laws of hit policies: reading a policy's letters gives it, and which texts are no policy.
-use mathlib.Core.Path.{_≡_, refl, sym, ap, _∙_}
-use mathlib.Core.Bool.{Bool, true, false, _&&_, and-false}
+use mathlib.Core.Path.{_≡_, refl}
+use mathlib.Core.Bool.{and-false}
 use mathlib.Core.List.{List, [], _∷_}
-use mathlib.Core.Option.{Option, none, some}
-use Prim.Native.Nat.{ℕ, suc, _+_, _<_}
+use mathlib.Core.Option.{none, some}
+use Prim.Native.Nat.{ℕ}
 use native.Mathlib.Omega.{arith}
-use lib.Dec.{eqb}
 use lib.ListN.{length, getD}
 use borrow.Author.Tests.{ne-eqb}
-use Rattle.lists.specs.Choose.{choose}
 use Rattle.model.specs.Policies.{policies, letters, policyNumber, sameText, byLetters, policyOf}
 use Rattle.model.specs.declared.BuiltinAggregator.the-variants as aggregator
 use Rattle.model.specs.declared.HitPolicy.{HitPolicy}

@@ -1,5 +1,5 @@
 -- The rule number that a trimmed text is: document 01, "A number may have a leading + and zeros and must fit 64 bits".
-use mathlib.Core.Bool.{Bool, true, false, _&&_}
+use mathlib.Core.Bool.{Bool, _&&_}
 use mathlib.Core.List.{List, [], _∷_}
 use mathlib.Core.Option.{Option, none, some}
 use Prim.Native.Nat.{ℕ, _+_, _-_, _*_, _^_}

@@ -6,7 +6,7 @@ use Prim.Native.Nat.{ℕ}
 use Rattle.lists.specs.Answer.{ok, refused}
 use Rattle.lists.specs.OneOf.{oneOf}
 use Rattle.lists.specs.Picture.{canvas, within}
-use Rattle.model.specs.Box.{┌, ┐, └, ┘, ─, │, ═, ║, ╞, ╡, ╥, ╨, ╬}
+use Rattle.model.specs.Box.{┌, ┐, └, ┘, ─, ═, ╞, ╡, ╥, ╨, ╬}
 use Rattle.model.specs.declared.Refusal.the-variants.{CharactersNotFound}
 use Rattle.walks.specs.Walk.{walkFrom}
 use Rattle.outline.specs.Outline.{searchFrom, namedOf, bodyOf, tableOf, outlineOf}

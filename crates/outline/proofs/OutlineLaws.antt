@@ -1,18 +1,17 @@
 -- Laws of the search for a character, and of the steps of the outline.
-use mathlib.Core.Path.{_≡_, refl, sym, ap, _∙_}
+use mathlib.Core.Path.{_≡_, refl, sym, _∙_}
 use mathlib.Core.Bool.{Bool, true, false}
 use mathlib.Core.List.{List, [], _∷_}
 use Prim.Native.Nat.{ℕ, zero, suc, _+_, _-_, _*_, _/_, _%_, _≤_, _<_, _^_}
 use native.Mathlib.Nat.{sub-zero}
 use native.Mathlib.Numerals.{add-one}
 use native.Mathlib.Omega.{arith}
-use lib.Dec.{eqb, ltb}
+use lib.Dec.{eqb}
 use borrow.Author.Tests.{eq-eqb, ne-eqb, lt-ltb}
-use Rattle.lists.specs.Answer.{Answer, ok, refused, _>>=_}
+use Rattle.lists.specs.Answer.{ok, refused, _>>=_}
 use Rattle.lists.specs.Choose.{choose}
 use Rattle.lists.specs.Picture.{Picture, at}
-use Rattle.lists.proofs.AnswerLaws.{refused-ok, then-ok}
-use Rattle.lists.proofs.PlaceLaws.{column-in, row-in}
+use Rattle.lists.proofs.AnswerLaws.{refused-ok}
 use Rattle.model.specs.Box.{┌, ═, ║, ╞, ╟, ╡, ╢, ╤, ╥, ╧, ╨, ╪, ╫, ╬}
 use Rattle.model.specs.Refusals.{Reading}
 use Rattle.model.specs.declared.Rect.{Rect}
@@ -28,7 +27,6 @@ use Rattle.walks.proofs.WalkLaws.{found-bound}
 use Rattle.outline.specs.Outline.{searchFrom, searchOf, namedOf, crossingBy, bodyOf, tableOf, outlineOf}
 use Rattle.outline.specs.Answers.{WalkFits}
 use Rattle.outline.specs.declared.Crossing.{Crossing}
-use Rattle.outline.specs.declared.Outline.{Outline}
 
 -- a search has come to place i
 pub record Searching (f : ℕ → ℕ) (c n i : ℕ) : Type 0 where

@@ -1,7 +1,7 @@
 -- The outline of a table on TEXT: document 01, "Canvas", and the Rust's `recognize_information_item_name`, `recognize_crossings` and
 -- `recognize_body_rect`.
 use mathlib.Core.Bool.{Bool, true, false}
-use mathlib.Core.List.{List, [], _∷_}
+use mathlib.Core.List.{[], _∷_}
 use Prim.Native.Nat.{ℕ, zero, suc, _+_, _-_, _*_, _/_, _%_}
 use lib.Dec.{eqb, ltb}
 use Rattle.lists.specs.Answer.{ok, refused, _>>=_, _>>_}

@@ -1,5 +1,4 @@
 -- Slots in a work slice, three numbers each: kind, offset, length. Kind 0 is absent, 1 a part of the texts; a slot of any other kind has its bytes handed over by the caller.
-use mathlib.Core.Bool.{Bool}
 use mathlib.Core.List.{List}
 use mathlib.Core.Option.{none, some}
 use Prim.Native.Nat.{ℕ, zero, suc, _+_, _-_, _*_, _^_, _≤_, _<_}

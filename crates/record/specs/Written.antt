@@ -1,5 +1,5 @@
 -- What a record slice holds while a record is written to it, and what beginning a record answers.
-use mathlib.Core.List.{List, _++_}
+use mathlib.Core.List.{List}
 use Prim.Native.Nat.{ℕ, _+_, _*_}
 use lib.Dec.{ltb}
 use lib.ListN.{length, take}

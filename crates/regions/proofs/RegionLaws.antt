@@ -2,18 +2,17 @@
 use mathlib.Core.Path.{_≡_, refl, sym, ap, _∙_, subst}
 use mathlib.Core.Bool.{Bool, true, false}
 use mathlib.Core.List.{List, [], _∷_, _++_}
-use Prim.Native.Nat.{ℕ, _+_, _-_, _*_, _/_, _%_, _≤_, _<_, _^_}
+use Prim.Native.Nat.{ℕ, _+_, _-_, _*_, _/_, _%_, _≤_, _<_}
 use native.Mathlib.Nat.{sub-zero}
 use native.Mathlib.Omega.{arith}
-use lib.Dec.{ltb}
-use lib.ListN.{length, getD, length-append}
+use lib.ListN.{length, length-append}
 use borrow.Author.Tests.{lt-ltb, le-ltb}
-use Rattle.lists.specs.Answer.{Answer, ok, refused, _>>=_, each, those}
+use Rattle.lists.specs.Answer.{ok, refused, _>>=_, each, those}
 use Rattle.lists.specs.Choose.{choose}
-use Rattle.lists.specs.Picture.{Picture, canvas, at}
+use Rattle.lists.specs.Picture.{Picture, at}
 use Rattle.lists.specs.Run.{run}
 use Rattle.lists.proofs.AnswerLaws.{refused-ok, those-next, turn-on, turn-out, turn-end}
-use Rattle.lists.proofs.PlaceLaws.{columns, column-in, row-in, at-canvas}
+use Rattle.lists.proofs.PlaceLaws.{columns, column-in, row-in}
 use Rattle.lists.proofs.RunLaws.{length-run}
 use Rattle.model.specs.Limits.{regionCount}
 use Rattle.model.specs.Refusals.{Reading}
@@ -21,10 +20,9 @@ use Rattle.model.specs.declared.Rect.{Rect}
 use Rattle.model.specs.declared.Refusal.{Refusal}
 use Rattle.model.specs.declared.Refusal.the-variants.{OverLimit}
 use Rattle.walks.specs.Frame.{Kind, Place, rectOf, frameOf}
-use Rattle.walks.specs.Kinds.{thin}
 use Rattle.walks.proofs.FrameLaws.{accepted}
 use Rattle.regions.specs.Rects.{rectAt, rectsOf, regionsIn, Small, Layer}
-use Rattle.regions.specs.Regions.{Finder, isCorner, cornersOf, addRegion, regionsBy, regionsOf}
+use Rattle.regions.specs.Regions.{Finder, isCorner, cornersOf, addRegion, regionsBy}
 use Rattle.regions.specs.declared.Counted.{Counted}
 use Rattle.regions.specs.declared.Counted.the-variants.{Regions, NotCounted}
 

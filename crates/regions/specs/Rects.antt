@@ -1,7 +1,7 @@
 -- Rects in a slice: four numbers each.
 use mathlib.Core.List.{List}
 use Prim.Native.Nat.{ℕ, _+_, _*_, _≤_, _<_, _^_}
-use lib.ListN.{length, getD}
+use lib.ListN.{getD}
 use Rattle.lists.specs.Answer.{ok, refused}
 use Rattle.lists.specs.Run.{run}
 use Rattle.model.specs.Refusals.{Reading}

@@ -2,18 +2,17 @@
 use mathlib.Core.Path.{_≡_, refl, sym, ap, subst, _∙_}
 use mathlib.Core.Bool.{Bool, true, false}
 use mathlib.Core.List.{List, [], _∷_, _++_, append-nil, append-assoc}
-use Prim.Native.Nat.{ℕ, zero, suc, _+_, _-_, _≤_, _<_}
+use Prim.Native.Nat.{ℕ, _+_, _≤_, _<_}
 use mathlib.Core.Logic.{_⊎_, inl, inr}
 use native.Mathlib.Nat.{eq-or-lt-of-le}
 use native.Mathlib.Omega.{arith}
-use lib.ListN.{length, getD, take, drop, length-append}
-use lib.Seq.{take-nil}
+use lib.ListN.{length, take, drop, length-append}
 use lib.Dec.{eqb}
 use borrow.Author.Tests.{eq-eqb, ne-eqb}
 use Rattle.unicode.specs.White.{white}
 use Rattle.lists.specs.Choose.{choose}
 use Rattle.unicode.specs.Trim.{trimStart, trimEnd, before, trim}
-use Rattle.unicode.specs.Lines.{join, lines, lastOf, texts, kept, line, after, lineText, codesAt, LineAt}
+use Rattle.unicode.specs.Lines.{join, lines, lastOf, texts, kept, line, after, lineText, LineAt}
 use Rattle.unicode.specs.LineScan.{lead, RestAt}
 use Rattle.unicode.specs.Utf8.{codes, decode}
 use Rattle.unicode.specs.declared.Decoded.the-variants.{Char}

@@ -1,13 +1,13 @@
 -- Laws of trimming code points, at a place of a list.
-use mathlib.Core.Path.{_≡_, refl, sym, ap, subst, _∙_}
+use mathlib.Core.Path.{_≡_, refl, ap, _∙_}
 use mathlib.Core.Bool.{Bool, true, false}
 use mathlib.Core.List.{List, [], _∷_, _++_}
-use Prim.Native.Nat.{ℕ, zero, suc, _+_, _-_, _≤_, _<_}
+use Prim.Native.Nat.{ℕ, suc, _+_, _-_, _≤_, _<_}
 use native.Mathlib.Omega.{arith}
 use lib.ListN.{length, getD, take, drop, drop-of-length-le, length-drop}
 use lib.Seq.{take-suc, getD-drop}
 use Rattle.unicode.specs.White.{white}
-use Rattle.unicode.specs.Trim.{trimStart, trimEnd, before, trim}
+use Rattle.unicode.specs.Trim.{trimStart, trimEnd, before}
 use Rattle.lists.specs.Choose.{choose}
 use Rattle.lists.proofs.Parts.{at-cons}
 

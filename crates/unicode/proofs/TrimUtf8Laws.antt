@@ -1,19 +1,17 @@
 -- A text in UTF-8 trimmed by a scan of its bytes: what is left are the bytes of its trimmed code points.
 use mathlib.Core.Path.{_≡_, refl, sym, ap, _∙_}
-use mathlib.Core.Bool.{Bool, true, false}
+use mathlib.Core.Bool.{true, false}
 use mathlib.Core.List.{List, [], _∷_, _++_, append-nil, append-assoc}
 use Prim.Native.Nat.{ℕ, _+_, _-_, _≤_, _<_}
 use native.Mathlib.Omega.{arith}
 use lib.ListN.{length, take, drop, length-drop}
 use lib.Seq.{length-take-le}
-use Rattle.lists.specs.Choose.{choose}
 use Rattle.lists.proofs.Parts.{part-add, part-end}
 use Rattle.unicode.specs.White.{white}
 use Rattle.unicode.specs.Utf8.{decode, check, checked, codes, encode, encodes}
 use Rattle.unicode.specs.Trim.{trimStart, trimEnd, trim, trimStartUtf8, trimUtf8, PartIn}
 use Rattle.unicode.specs.LineScan.{Led}
 use Rattle.unicode.specs.declared.Decoded.the-variants.{Char, IllFormed, End}
-use Rattle.unicode.specs.declared.Checked.{Checked}
 use Rattle.unicode.specs.declared.Checked.the-variants.{Valid, Invalid}
 use Rattle.unicode.proofs.Utf8Laws.{char-fits, check-at, codes-at, codes-end, check-bad, check-end, decode-none}
 use Rattle.unicode.proofs.TrimLaws.{end-snoc}

@@ -1,15 +1,14 @@
 -- Laws of White_Space: a code point is white exactly if it is in one of the ranges.
-use mathlib.Core.Path.{_≡_, refl, sym, ap, _∙_}
-use mathlib.Core.Logic.{_⊎_, inl, inr, ⊎-elim}
+use mathlib.Core.Path.{_≡_, refl}
+use mathlib.Core.Logic.{_⊎_, inl, inr}
 use mathlib.Core.Bool.{Bool, true, false, _||_}
 use mathlib.Core.List.{List, [], _∷_}
-use Prim.Native.Nat.{ℕ, _≤_, _<_}
-use native.Mathlib.Omega.{arith}
+use Prim.Native.Nat.{ℕ, _≤_}
 use lib.Dec.{leb}
 use borrow.Author.Tests.{leb-true}
 use Rattle.lists.proofs.Tests.{both}
 use Rattle.unicode.specs.Utf8.{Range, _–_, inRange}
-use Rattle.unicode.specs.White.{spaces, among, white}
+use Rattle.unicode.specs.White.{among}
 use Rattle.unicode.proofs.Utf8Laws.{in-range}
 
 -- c is in one of the ranges

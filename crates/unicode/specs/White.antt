@@ -1,5 +1,5 @@
 -- The Unicode Character Database's property White_Space (PropList.txt): 25 code points.
-use mathlib.Core.Bool.{Bool, true, false, _||_}
+use mathlib.Core.Bool.{Bool, false, _||_}
 use mathlib.Core.List.{List, [], _∷_}
 use Prim.Native.Nat.{ℕ}
 use Rattle.unicode.specs.Utf8.{Range, _–_, inRange}

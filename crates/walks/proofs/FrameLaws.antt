@@ -3,17 +3,16 @@ use mathlib.Core.Path.{_≡_, refl, sym, ap, _∙_, subst}
 use mathlib.Core.Bool.{Bool, true, false, not, _&&_, _||_}
 use mathlib.Core.List.{List, [], _∷_}
 use mathlib.Core.Logic.{_↔_}
-use Prim.Native.Nat.{ℕ, zero, suc, _+_, _-_, _*_, _≤_, _<_}
+use Prim.Native.Nat.{ℕ, _+_, _-_, _<_}
 use native.Mathlib.Omega.{arith}
 use lib.Dec.{eqb}
 use borrow.Author.Tests.{eq-eqb, ne-eqb, eqb-true}
-use Rattle.lists.specs.Answer.{Answer, ok, refused, _>>=_}
+use Rattle.lists.specs.Answer.{ok, refused, _>>=_}
 use Rattle.lists.specs.Choose.{choose}
 use Rattle.lists.specs.OneOf.{oneOf}
 use Rattle.lists.specs.Picture.{Picture}
 use Rattle.lists.proofs.AnswerLaws.{refused-ok, then-ok}
 use Rattle.lists.proofs.Tests.{both, true-false}
-use Rattle.model.specs.Refusals.{Reading}
 use Rattle.model.specs.declared.Rect.{Rect}
 use Rattle.model.specs.declared.Refusal.{Refusal}
 use Rattle.model.specs.declared.Refusal.the-variants.{RectangleNotClosed}
@@ -21,7 +20,7 @@ use Rattle.walks.specs.Walk.{ray, ahead, goOf}
 use Rattle.walks.specs.Frame.{Kind, rectOf, closeOf, frameOf, Frame, Starts}
 use Rattle.walks.specs.Kinds.{thin, grid, name}
 use Rattle.walks.specs.declared.Direction.the-variants.{Right, Down, Left, Up}
-use Rattle.walks.proofs.WalkLaws.{Side, Apart, found-side, side-found}
+use Rattle.walks.proofs.WalkLaws.{Apart, found-side, side-found}
 
 -- no character of a side is one of the corner that ends it
 pub record Sound (K : Kind) : Type 0 where

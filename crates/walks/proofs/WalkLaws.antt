@@ -8,15 +8,13 @@ use native.Mathlib.Nat.{eq-or-lt-of-le}
 use native.Mathlib.Numerals.{add-one}
 use native.Mathlib.Omega.{arith}
 use lib.ListN.{getD}
-use Rattle.lists.specs.Answer.{Answer, ok, refused}
+use Rattle.lists.specs.Answer.{ok, refused}
 use Rattle.lists.specs.Choose.{choose}
 use Rattle.lists.specs.OneOf.{oneOf}
 use Rattle.lists.proofs.AnswerLaws.{refused-ok}
 use Rattle.model.specs.Refusals.{Reading}
 use Rattle.model.specs.declared.Refusal.the-variants.{CharactersNotFound, CharacterNotAllowed}
-use Rattle.walks.specs.Walk.{walkFrom, walkOf, stepsIn}
-use Rattle.walks.specs.declared.Walked.{Walked}
-use Rattle.walks.specs.declared.Walked.the-variants.{Steps, Stopped}
+use Rattle.walks.specs.Walk.{walkFrom, walkOf}
 
 -- the ways that a turn can go
 module _ (line : ℕ → ℕ) (s a : List ℕ) (k n : ℕ) where

@@ -1,10 +1,10 @@
 -- Frames: by four walks, for the refusals, and by the characters on their sides, which is document 01's definition.
-use mathlib.Core.Bool.{Bool, true, false, _&&_}
+use mathlib.Core.Bool.{true, _&&_}
 use mathlib.Core.List.{List}
 use mathlib.Core.Path.{_≡_}
 use Prim.Native.Nat.{ℕ, _+_, _-_, _*_, _≤_, _<_}
 use lib.Dec.{eqb}
-use Rattle.lists.specs.Answer.{Answer, ok, refused, _>>=_, _>>_}
+use Rattle.lists.specs.Answer.{ok, refused, _>>=_, _>>_}
 use Rattle.lists.specs.Choose.{choose}
 use Rattle.lists.specs.OneOf.{oneOf}
 use Rattle.lists.specs.Picture.{Picture}

@@ -1,7 +1,6 @@
 -- The three kinds of frames: document 01, "Regions and plane", and `recognize_information_item_name` of the Rust. The characters stand in
 -- the Rust's order: the first of a corner is the one that a refusal 3 tells.
-use mathlib.Core.List.{List, [], _∷_}
-use Prim.Native.Nat.{ℕ}
+use mathlib.Core.List.{[], _∷_}
 use Rattle.model.specs.Box.{─, │, ┌, ┐, └, ┘, ├, ┤, ┬, ┴, ┼, ╥}
 use Rattle.walks.specs.Frame.{Kind}
 

@@ -1,5 +1,5 @@
 -- `canvas::make_layers` meets its contract.
-use mathlib.Core.Path.{_≡_, ap, _∙_}
+use mathlib.Core.Path.{ap, _∙_}
 use Rattle.lists.specs.Picture.{Picture, canvas}
 use Rattle.layers.specs.Body.{bodyPicture}
 use Rattle.layers.specs.Grid.{gridPicture}

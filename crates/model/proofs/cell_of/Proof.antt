@@ -1,6 +1,5 @@
 -- `model::cell_of` meets its contract.
 use Rattle.model.proofs.CellLaws.{last-kind}
-use borrow.Author.Needs.{needs}
 use Rattle.model.proofs.cell_of.Statement.{statement}
 use Rattle.model.proofs.cell_of.Tie as tie
 

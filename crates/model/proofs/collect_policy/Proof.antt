@@ -1,7 +1,6 @@
 -- `model::collect_policy` meets its contract.
 use Rattle.model.specs.Policies.{byLetters, sameText}
 use Rattle.model.proofs.PolicyLaws.{no-sign}
-use borrow.Author.Needs.{needs}
 use Rattle.model.proofs.collect_policy.Statement.{statement}
 use Rattle.model.proofs.collect_policy.Tie as tie
 

@@ -2,7 +2,6 @@
 use mathlib.Core.Path.{ap, _∙_}
 use Rattle.model.specs.Policies.{policyOf}
 use Rattle.model.proofs.PolicyLaws.{no-length, no-collect, one-byte, collect-bytes}
-use borrow.Author.Tests.{not-true}
 use borrow.Author.Needs.{needs}
 use Rattle.model.proofs.hit_policy.Statement.{statement}
 use Rattle.model.proofs.hit_policy.Tie as tie

@@ -1,7 +1,6 @@
 -- `model::letter_policy` meets its contract.
 use Rattle.model.specs.Policies.{byLetters, sameText}
 use Rattle.model.proofs.PolicyLaws.{no-letter}
-use borrow.Author.Needs.{needs}
 use Rattle.model.proofs.letter_policy.Statement.{statement}
 use Rattle.model.proofs.letter_policy.Tie as tie
 

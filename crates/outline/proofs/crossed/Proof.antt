@@ -1,6 +1,5 @@
 -- `outline::crossed` meets its contract.
-use mathlib.Core.Path.{sym, ap, subst}
-use Rattle.walks.specs.declared.Walked.{Walked}
+use mathlib.Core.Path.{subst}
 use Rattle.outline.specs.Answers.{WalkFits}
 use borrow.Author.Needs.{needs}
 use Rattle.outline.proofs.crossed.Statement.{statement}

@@ -1,6 +1,5 @@
 -- `outline::recognize_body` meets its contract. One law of `bodyOf` for each walk.
 use mathlib.Core.Path.{_≡_, sym, ap, _∙_}
-use lib.ListN.{length}
 use Rattle.lists.specs.Answer.{ok}
 use Rattle.lists.specs.Picture.{Picture, canvas}
 use Rattle.walks.specs.Walk.{stepsIn}

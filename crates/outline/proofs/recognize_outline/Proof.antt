@@ -1,12 +1,10 @@
 -- `outline::recognize_outline` meets its contract. One law of `outlineOf` for each step.
 use mathlib.Core.Path.{_≡_, sym, ap, _∙_}
-use Prim.Native.Nat.{ℕ, _*_, _/_, _<_}
-use lib.ListN.{length}
+use Prim.Native.Nat.{_*_, _/_, _<_}
 use Rattle.lists.specs.Answer.{ok}
 use Rattle.lists.specs.Picture.{Picture, canvas}
 use Rattle.lists.proofs.PlaceLaws.{columns, row-in}
 use Rattle.model.specs.Box.{┌, ╥, ╬}
-use Rattle.walks.specs.Frame.{Place}
 use Rattle.outline.specs.Outline.{searchOf, namedOf}
 use Rattle.outline.specs.Answers.{placeIn, namedIn}
 use Rattle.outline.proofs.OutlineLaws.{search-in, no-corner, no-edge, no-name, no-crossing, table-is}

@@ -1,8 +1,7 @@
 -- `outline::recognize_table` meets its contract.
-use mathlib.Core.Path.{_≡_, sym, ap, _∙_}
-use Prim.Native.Nat.{ℕ, _+_, _*_, _/_, _%_, _≤_, _<_}
+use mathlib.Core.Path.{sym, ap, _∙_}
+use Prim.Native.Nat.{_/_, _%_}
 use lib.ListN.{length}
-use Rattle.lists.specs.Picture.{canvas}
 use Rattle.lists.proofs.PlaceLaws.{columns, column-in, row-in}
 use Rattle.walks.specs.Frame.{Place, framedIn}
 use Rattle.outline.proofs.OutlineLaws.{walk-fits, table-made, no-body}

@@ -1,8 +1,6 @@
 -- `regions::add_if_corner` meets its contract.
 use mathlib.Core.Path.{_≡_, sym, ap, _∙_}
-use mathlib.Core.Bool.{Bool, true}
-use Prim.Native.Nat.{ℕ, _<_, _*_}
-use lib.ListN.{length, getD}
+use mathlib.Core.Bool.{Bool}
 use Rattle.lists.specs.Picture.{canvas, at}
 use Rattle.lists.proofs.PlaceLaws.{at-canvas}
 use Rattle.regions.specs.Regions.{isCorner}

@@ -1,7 +1,7 @@
 -- `regions::add_region` meets its contract.
 use mathlib.Core.Path.{_≡_, sym, ap, _∙_}
-use mathlib.Core.List.{List, [], _∷_, _++_}
-use Prim.Native.Nat.{ℕ, _<_, _*_, _/_, _%_}
+use mathlib.Core.List.{[], _∷_, _++_}
+use Prim.Native.Nat.{_<_, _/_, _%_}
 use lib.ListN.{length}
 use Rattle.lists.specs.Answer.{ok, _>>=_}
 use Rattle.lists.specs.Picture.{canvas}

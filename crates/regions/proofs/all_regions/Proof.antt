@@ -1,7 +1,6 @@
 -- `regions::all_regions` meets its contract.
-use mathlib.Core.Path.{_≡_, sym, ap, _∙_}
-use Prim.Native.Nat.{ℕ, _-_, _*_}
-use lib.ListN.{length}
+use mathlib.Core.Path.{ap, _∙_}
+use Prim.Native.Nat.{_-_, _*_}
 use Rattle.lists.specs.Picture.{canvas}
 use Rattle.lists.proofs.PlaceLaws.{at-canvas}
 use Rattle.walks.specs.Frame.{frameOf}

@@ -2,8 +2,7 @@
 use mathlib.Core.Path.{_≡_, sym, ap, _∙_}
 use mathlib.Core.Logic.{⊎-elim}
 use mathlib.Core.Bool.{Bool}
-use Prim.Native.Nat.{ℕ, _+_, _-_, _*_, _≤_}
-use lib.ListN.{length}
+use Prim.Native.Nat.{_-_, _*_}
 use Rattle.lists.specs.Picture.{canvas, at}
 use Rattle.lists.proofs.PlaceLaws.{at-canvas}
 use Rattle.regions.specs.Regions.{isCorner}

@@ -1,6 +1,5 @@
 -- `regions::regions` meets its contract.
 use mathlib.Core.Path.{_∙_}
-use lib.ListN.{length}
 use Rattle.regions.proofs.RegionLaws.{too-many, few-enough}
 use native.Mathlib.Omega.{arith}
 use borrow.Author.Needs.{needs}

@@ -1,5 +1,5 @@
 -- `unicode::codes_end` meets its contract. The invariant: what is trimmed from the end is the same up to `to`.
-use mathlib.Core.Path.{_≡_, refl, sym, ap, _∙_}
+use mathlib.Core.Path.{_≡_, sym, ap, _∙_}
 use Prim.Native.Nat.{ℕ, _+_, _-_, _≤_}
 use borrow.Author.Needs.{needs}
 use native.Mathlib.Nat.{le-refl}

@@ -1,11 +1,6 @@
 -- `unicode::line_at` meets its contract.
 use Rattle.unicode.proofs.LineLaws.{line-of}
-use mathlib.Core.Path.{_≡_, refl, sym, ap, _∙_}
-use mathlib.Core.List.{List, [], _∷_, _++_}
-use Prim.Native.Nat.{ℕ, _+_, _-_, _*_, _≤_, _<_}
-use native.Mathlib.Omega.{arith}
 use borrow.Author.Needs.{needs}
-use lib.ListN.{length, getD, take, drop}
 use Rattle.unicode.proofs.line_at.Statement.{statement}
 use Rattle.unicode.proofs.line_at.Tie as tie
 

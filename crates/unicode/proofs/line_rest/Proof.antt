@@ -1,15 +1,13 @@
 -- `unicode::line_rest` meets its contract.
-use Rattle.unicode.specs.Utf8.{codes, decode}
-use Rattle.unicode.specs.Lines.{line, after}
+use Rattle.unicode.specs.Utf8.{decode}
 use Rattle.unicode.specs.declared.Decoded.the-variants.{Char}
-use Rattle.unicode.proofs.Utf8Laws.{char-fits, codes-at, codes-bad, codes-end, codes-none}
+use Rattle.unicode.proofs.Utf8Laws.{codes-bad, codes-none}
 use Rattle.unicode.proofs.LineLaws.{Scanned, scan-start, scan-fits, scan-white, scan-dark, scan-feed, scan-stop, scan-end}
-use mathlib.Core.Path.{_≡_, refl, sym, ap, _∙_}
-use mathlib.Core.List.{List, [], _∷_, _++_}
-use Prim.Native.Nat.{ℕ, _+_, _-_, _*_, _≤_, _<_}
+use mathlib.Core.Path.{_≡_, sym, _∙_}
+use Prim.Native.Nat.{_-_}
 use native.Mathlib.Omega.{arith}
 use borrow.Author.Needs.{needs}
-use lib.ListN.{length, getD, take, drop}
+use lib.ListN.{length, drop}
 use Rattle.unicode.proofs.line_rest.Statement.{statement}
 use Rattle.unicode.proofs.line_rest.Tie as tie
 

@@ -1,7 +1,7 @@
 -- `unicode::more1` meets its contract.
 use mathlib.Core.List.{[]}
 use Rattle.unicode.specs.Utf8.{more}
-use mathlib.Core.Path.{sym, refl, _∙_}
+use mathlib.Core.Path.{sym}
 use Rattle.unicode.proofs.Utf8Laws.{more-end, more-below, more-above, more-in}
 use borrow.Author.Needs.{needs}
 use Rattle.unicode.proofs.more1.Statement.{statement}

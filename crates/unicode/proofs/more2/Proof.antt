@@ -1,7 +1,7 @@
 -- `unicode::more2` meets its contract.
 use mathlib.Core.List.{[], _∷_}
 use Rattle.unicode.specs.Utf8.{tail}
-use mathlib.Core.Path.{sym, refl, _∙_}
+use mathlib.Core.Path.{sym, _∙_}
 use Rattle.unicode.proofs.Utf8Laws.{more-end, more-below, more-above, more-in}
 use borrow.Author.Needs.{needs}
 use Rattle.unicode.proofs.more2.Statement.{statement}

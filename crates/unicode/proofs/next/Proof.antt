@@ -3,7 +3,7 @@ use mathlib.Core.Path.{_≡_, refl, sym, _∙_}
 use mathlib.Core.List.{List}
 use Prim.Native.Nat.{ℕ, _+_, _<_}
 use lib.ListN.{length, getD, drop}
-use Rattle.unicode.specs.Utf8.{more, decode, by, table}
+use Rattle.unicode.specs.Utf8.{decode, by, table}
 use Rattle.unicode.specs.declared.Decoded.{Decoded}
 use Rattle.unicode.proofs.Utf8Laws.{decode-end, decode-at, row1, row2, row3, row4, row5, row6, row7, row8, row9, row-gap, row-none}
 use borrow.Author.Needs.{needs}

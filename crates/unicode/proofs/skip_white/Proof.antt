@@ -1,16 +1,14 @@
 -- `unicode::skip_white` meets its contract.
 use native.Mathlib.Nat.{le-refl}
-use Rattle.unicode.specs.Utf8.{codes, decode}
-use Rattle.unicode.specs.LineScan.{lead}
+use Rattle.unicode.specs.Utf8.{decode}
 use Rattle.unicode.specs.declared.Decoded.the-variants.{Char}
-use Rattle.unicode.proofs.Utf8Laws.{char-fits, codes-at, codes-bad, codes-end, codes-none}
+use Rattle.unicode.proofs.Utf8Laws.{codes-bad, codes-end, codes-none}
 use Rattle.unicode.proofs.LineLaws.{Skipped, skip-fits, skip-more, skip-feed, skip-dark, skip-stop}
-use mathlib.Core.Path.{_≡_, refl, sym, ap, _∙_}
-use mathlib.Core.List.{List, [], _∷_, _++_}
-use Prim.Native.Nat.{ℕ, _+_, _-_, _*_, _≤_, _<_}
+use mathlib.Core.Path.{_≡_, refl, sym, _∙_}
+use Prim.Native.Nat.{_-_}
 use native.Mathlib.Omega.{arith}
 use borrow.Author.Needs.{needs}
-use lib.ListN.{length, getD, take, drop}
+use lib.ListN.{length, drop}
 use Rattle.unicode.proofs.skip_white.Statement.{statement}
 use Rattle.unicode.proofs.skip_white.Tie as tie
 

@@ -2,10 +2,10 @@
 use mathlib.Core.Path.{_≡_, refl, sym, _∙_}
 use mathlib.Core.List.{List}
 use Rattle.unicode.specs.declared.Decoded.the-variants.{Char}
-use Prim.Native.Nat.{ℕ, _+_, _-_, _≤_, _<_}
+use Prim.Native.Nat.{ℕ, _+_, _-_, _≤_}
 use native.Mathlib.Omega.{arith}
 use borrow.Author.Needs.{needs}
-use lib.ListN.{length, getD, drop}
+use lib.ListN.{length, drop}
 use Rattle.unicode.specs.Utf8.{decode, check}
 use Rattle.unicode.proofs.Utf8Laws.{char-fits, check-at, check-bad, check-none, check-end}
 use Rattle.unicode.proofs.validate.Statement.{statement}

@@ -1,10 +1,10 @@
 -- `walks::frame` meets its contract. One law of `frameOf` for each walk.
 use mathlib.Core.Path.{_≡_, sym, ap, _∙_}
-use Prim.Native.Nat.{ℕ, _+_, _-_, _≤_, _<_}
+use Prim.Native.Nat.{ℕ, _+_, _-_, _≤_}
 use lib.ListN.{length}
-use Rattle.lists.specs.Answer.{ok, refused}
+use Rattle.lists.specs.Answer.{ok}
 use Rattle.lists.specs.Picture.{Picture, canvas}
-use Rattle.walks.specs.Walk.{goOf, ray, ahead, stepsIn}
+use Rattle.walks.specs.Walk.{goOf, stepsIn}
 use Rattle.walks.specs.Frame.{Kind, Place}
 use Rattle.walks.specs.declared.Direction.the-variants.{Right, Down, Left, Up}
 use Rattle.walks.proofs.WalkLaws.{found-bound}

@@ -1,6 +1,6 @@
 -- `walks::walk_line` meets its contract. What is left of the line decides.
-use mathlib.Core.Path.{_≡_, refl, sym, ap, _∙_, subst}
-use mathlib.Core.Bool.{Bool, true, false}
+use mathlib.Core.Path.{_≡_, sym, ap, _∙_, subst}
+use mathlib.Core.Bool.{Bool}
 use mathlib.Core.List.{List}
 use Prim.Native.Nat.{ℕ, _+_, _-_, _≤_, _<_}
 use native.Mathlib.Nat.{sub-zero}
@@ -10,7 +10,7 @@ use Rattle.lists.specs.Answer.{refused}
 use Rattle.lists.specs.OneOf.{oneOf}
 use Rattle.model.specs.declared.Refusal.the-variants.{CharactersNotFound, CharacterNotAllowed}
 use Rattle.walks.specs.Walk.{walkFrom, walkOf}
-use Rattle.walks.specs.Line.{place, lineOf, nextOf, NextFits}
+use Rattle.walks.specs.Line.{place, lineOf, nextOf}
 use Rattle.walks.proofs.WalkLaws.{turn-found, turn-barred, turn-on, turn-end}
 use Rattle.walks.proofs.LineLaws.{place-zero, place-next, reach-next, reach-in}
 use native.Mathlib.Omega.{arith}
