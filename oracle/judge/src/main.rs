@@ -12,7 +12,7 @@ use std::process::ExitCode;
 
 const USAGE: &str = "judge sheet|sheets|planes [--record-bytes N] < FILE
 judge layers|split|count < FILE
-judge generate --seed S --count N [--kind sheets|damaged|planes|splits]";
+judge generate --seed S --count N [--kind sheets|damaged|planes|splits|short-splits|short-bytes|long-splits]";
 
 /// The options of all modes.
 struct Options {

@@ -57,7 +57,7 @@ enum-known-rows : tie.Need-enum-known-rows
 enum-known-rows c = search needs
 
 recognize-outline-requires : tie.Need-recognize-outline-requires
-recognize-outline-requires c κs = 
+recognize-outline-requires c κs =
     let k = c .before in
     omega (arith, canvas-fits (sheet k) (rows k) (columns k) (end k) (size k), start k .pre .1 .text)
 
@@ -65,19 +65,21 @@ enum-known-o : tie.Need-enum-known-o
 enum-known-o c = search needs
 
 make-layers-requires : tie.Need-make-layers-requires
-make-layers-requires c κs = 
+make-layers-requires c κs =
     let f = c .before .before .before .before in
     let k = canvased (found f) in
     let p = start k .pre .1 in
-    let n = canvas-fits (sheet k) (rows k) (columns k) (end k) (size k) in
-    (record {
-      narrow = columns-fit (sheet k) (rows k) (columns k) (end k) (size k);
-      low = rows-fit (sheet k) (rows k) (columns k) (end k) (size k);
-      text = omega (arith, p .text);
-      thin = omega (arith, p .thin);
-      body = omega (arith, p .body);
-      grid = omega (arith, p .grid);
-    }, body-in (sheet k) (rows k) (columns k) (end k) (size k) (start k .args .text .now) _ (scanned k .scan .ensures .1 .1 .0) _ (outline-told f))
+    let n = canvas-fits (sheet k) (rows k) (columns k) (end k) (size k) in (
+      record {
+        narrow = columns-fit (sheet k) (rows k) (columns k) (end k) (size k);
+        low = rows-fit (sheet k) (rows k) (columns k) (end k) (size k);
+        text = omega (arith, p .text);
+        thin = omega (arith, p .thin);
+        body = omega (arith, p .body);
+        grid = omega (arith, p .grid);
+      },
+      body-in (sheet k) (rows k) (columns k) (end k) (size k) (start k .args .text .now) _ (scanned k .scan .ensures .1 .1 .0) _ (outline-told f),
+    )
 
 enum-known-r : tie.Need-enum-known-r
 enum-known-r c = search needs
@@ -98,14 +100,17 @@ same-length-4 : tie.Need-same-length-4
 same-length-4 c = search needs
 
 returns : tie.Need-returns
-returns c = 
+returns c =
     let m = c .before .before .before .before .before .before in
     let f = m .before .before .before .before .before in
     let k = canvased (found f) in
-    let s = scanned k .scan .ensures in
-    (outlined (sheet k) (rows k) (columns k) (end k) (size k) (start k .args .text .now) _ (s .1 .1 .0) _ (outline-told f),
-    (shown (sheet k) (rows k) (columns k) (end k) (size k) (start k .args .text .now) _ (s .1 .1 .0) _ (start k .args .bodies .now) _ _ _ _ (s .1 .1 .1) (m .make-layers .ensures .0) (m .make-layers .ensures .1 .0) (m .make-layers .ensures .1 .1),
-    ended k))
+    let s = scanned k .scan .ensures in (
+      outlined (sheet k) (rows k) (columns k) (end k) (size k) (start k .args .text .now) _ (s .1 .1 .0) _ (outline-told f),
+      (
+        shown (sheet k) (rows k) (columns k) (end k) (size k) (start k .args .text .now) _ (s .1 .1 .0) _ (start k .args .bodies .now) _ _ _ _ (s .1 .1 .1) (m .make-layers .ensures .0) (m .make-layers .ensures .1 .0) (m .make-layers .ensures .1 .1),
+        ended k,
+      ),
+    )
 
 same-length-5 : tie.Need-same-length-5
 same-length-5 c = search needs
@@ -114,7 +119,7 @@ same-length-6 : tie.Need-same-length-6
 same-length-6 c = search needs
 
 returns-2 : tie.Need-returns-2
-returns-2 c = 
+returns-2 c =
     let g = c .before .before .before in
     let k = canvased g in
     (outline-refused (sheet k) (rows k) (columns k) (end k) (size k) (start k .args .text .now) _ (scanned k .scan .ensures .1 .1 .0) _ (ap outlineIn (sym (c .before .r .given .1)) ∙ g .recognize-outline .ensures), (tt, tt))
@@ -126,7 +131,7 @@ same-length-8 : tie.Need-same-length-8
 same-length-8 c = search needs
 
 returns-3 : tie.Need-returns-3
-returns-3 c = 
+returns-3 c =
     let s = c .before .before .before .before .before .before .before in
     (scan-refused _ _ (ap scannedIn (sym (c .before .r2 .given .1)) ∙ s .scan .ensures .0), (tt, tt))
 

@@ -26,7 +26,7 @@ same-length-3 : tie.Need-same-length-3
 same-length-3 c = search needs
 
 returns : tie.Need-returns
-returns c = 
+returns c =
     let g = c .before .before in
     let b = g .before .before .before .before .before .before .before .before in
     let m = b .before .before .before .before .before .before in

@@ -23,6 +23,9 @@ pub enum Kind {
     Damaged,
     Planes,
     Splits,
+    ShortSplits,
+    ShortBytes,
+    LongSplits,
 }
 
 impl Kind {
@@ -33,6 +36,9 @@ impl Kind {
             "damaged" => Some(Kind::Damaged),
             "planes" => Some(Kind::Planes),
             "splits" => Some(Kind::Splits),
+            "short-splits" => Some(Kind::ShortSplits),
+            "short-bytes" => Some(Kind::ShortBytes),
+            "long-splits" => Some(Kind::LongSplits),
             _ => None,
         }
     }
@@ -46,6 +52,9 @@ pub fn generate(kind: Kind, seed: u64, case: u64) -> Vec<u8> {
         Kind::Damaged => sheet(damage::damaged(&mut random)),
         Kind::Planes => line(planes::plane(&mut random).line()),
         Kind::Splits => line(listed(&splits::text(&mut random))),
+        Kind::ShortSplits => line(listed(&splits::short(case))),
+        Kind::ShortBytes => line(listed(&splits::short_bytes(case))),
+        Kind::LongSplits => line(listed(&splits::long(&mut random))),
     }
 }
 

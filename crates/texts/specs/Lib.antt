@@ -1,0 +1,3 @@
+pub mod RegionText
+pub mod Rows
+pub mod Spans
