@@ -128,11 +128,13 @@ module _ {w h : ℕ} {t rs d s₀ : List ℕ} {n : ℕ} {out s : List ℕ} {k at
     all : k ≡ n
     all = omega (arith, q .along)
 
+    all-told : textsIn out s n ≡ build n (text w h t rs)
+    all-told = build-same n (textAt out s) (text w h t rs) (λ j v. q .told j (omega (arith, all)))
+
     pub gathering-texts : ok (textsIn out s n) ≡ textsOf (canvas w h t) (rectsOf rs n)
     gathering-texts =
         let b : size w h t rs n ≤ textBytes = omega (arith, rw all at (q .sized), q .room) in
-        let e : textsIn out s n ≡ build n (text w h t rs) = build-same n (textAt out s) (text w h t rs) (λ j v. q .told j (omega (arith, all))) in
-        rw (e, ← texts-built w h t rs n) (sym (texts-all (canvas w h t) (rectsOf rs n) (rw (texts-built w h t rs n) b)))
+        rw (all-told, ← texts-built w h t rs n) (sym (texts-all (canvas w h t) (rectsOf rs n) (rw (texts-built w h t rs n) b)))
 
-    pub gathering-spans : SpansIn (Texts at) s n
-    gathering-spans = (q .room, λ j v. q .inside j (omega (arith, all)))
+    pub gathering-spans : SpansIn (Texts at) out s n
+    gathering-spans = (rw (all-told, ← all) (q .sized), (q .room, λ j v. q .inside j (omega (arith, all))))

@@ -9,6 +9,7 @@ use Rattle.lists.specs.Run.{run}
 use Rattle.model.specs.Limits.{textBytes}
 use Rattle.model.specs.Refusals.{Reading}
 use Rattle.regions.specs.Rects.{rectAt, RectIn}
+use Rattle.texts.specs.RegionText.{packed}
 use Rattle.texts.specs.declared.Gathered.{Gathered}
 use Rattle.texts.specs.declared.Gathered.the-variants.{Texts, NotGathered}
 
@@ -30,10 +31,11 @@ abbrev pub gatheredIn : Gathered → List ℕ → List ℕ → ℕ → Reading (
 gatheredIn (Texts used) bytes spans n = ok (textsIn bytes spans n)
 gatheredIn (NotGathered r) bytes spans n = refused r
 
--- each of an answer's texts lies in the bytes that are used, at most 61,440
-abbrev pub SpansIn : Gathered → List ℕ → ℕ → Type 0
-SpansIn (Texts used) spans n = (used ≤ textBytes) × ((k : ℕ) → k < n → offsetAt spans k + lengthAt spans k ≤ used)
-SpansIn (NotGathered r) spans n = Unit {0}
+-- an answer's texts have so many bytes, at most 61,440, and each lies in them
+abbrev pub SpansIn : Gathered → List ℕ → List ℕ → ℕ → Type 0
+SpansIn (Texts used) bytes spans n =
+    (used ≡ length (packed (textsIn bytes spans n))) × ((used ≤ textBytes) × ((k : ℕ) → k < n → offsetAt spans k + lengthAt spans k ≤ used))
+SpansIn (NotGathered r) bytes spans n = Unit {0}
 
 -- the slices that gathering is handed: n rects that lie in w columns and h rows, and room for 61,440 bytes with the four of a code point more
 pub record Slices (w h : ℕ) (t rs b s : List ℕ) (n : ℕ) : Type 0 where

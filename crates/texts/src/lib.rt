@@ -105,7 +105,7 @@ pub fn gather(
 ) -> Gathered
     requires { ⌜ Slices w h (now text) (now rects) (now bytes) (now spans) n ⌝ }
     ensures answer { λ r. ⌜ gatheredIn r (now (bytes .exit)) (now (spans .exit)) n ≡ textsOf (canvas w h (now (text .entry))) (rectsOf (now (rects .entry)) n) ⌝ }
-    ensures spans { λ r. ⌜ SpansIn r (now (spans .exit)) n ⌝ }
+    ensures spans { λ r. ⌜ SpansIn r (now (bytes .exit)) (now (spans .exit)) n ⌝ }
 {
     let mut k = 0;
     let mut at = 0;
