@@ -1,3 +1,5 @@
 -- Laws of the canvas.
 pub mod DrawingLaws
+pub mod RegionTextLaws
 pub mod NameIsFirstRegion
+pub mod Examples

@@ -3,7 +3,9 @@ use model::Rect;
 use model::Refusal;
 use outline::Outline;
 use outline::Outlined;
+use regions::Counted;
 use scan::Scanned;
+use texts::Gathered;
 ghost use mathlib.Core.Path.{_≡_};
 ghost use Prim.Native.Nat.{_≤_};
 ghost use lib.ListN.{length};
@@ -15,6 +17,7 @@ ghost use Rattle.layers.specs.Thin.{thinPicture};
 ghost use Rattle.scan.specs.Canvas.{rowsAt};
 ghost use Rattle.canvas.specs.Layers.{drawingOf};
 ghost use Rattle.canvas.specs.Drawn.{outlineIn, LayersIn, Ended, Room};
+ghost use Rattle.canvas.specs.RegionTexts.{regionTextsOf, regionsIn, UsedIn, RegionRoom};
 
 // The canvas's rows and columns, where the text behind the sheet starts, and the outline; or a refusal.
 pub enum Drawing {
@@ -69,5 +72,34 @@ pub fn draw(
             Outlined::NotOutlined(r) => Drawing::NotDrawn(r),
         },
         Scanned::NotScanned(r) => Drawing::NotDrawn(r),
+    }
+}
+
+// So many regions, whose texts have so many bytes; or a refusal.
+pub enum RegionsRead {
+    Read(usize, usize),
+    NotRead(Refusal),
+}
+
+// The regions of THIN with their texts on TEXT.
+pub fn read_regions(
+    text: &[u32],
+    thins: &[u32],
+    w: usize,
+    h: usize,
+    rects: &mut [u32],
+    bytes: &mut [u8],
+    spans: &mut [u32],
+) -> RegionsRead
+    requires { ⌜ RegionRoom w h (now text) (now thins) (now rects) (now bytes) (now spans) ⌝ }
+    ensures answer { λ r. ⌜ regionsIn r (now (rects .exit)) (now (bytes .exit)) (now (spans .exit)) ≡ regionTextsOf (canvas w h (now (text .entry))) (canvas w h (now (thins .entry))) w h ⌝ }
+    ensures used { λ r. ⌜ UsedIn r (now (bytes .exit)) (now (spans .exit)) ⌝ }
+{
+    match regions::regions(thins, w, h, rects) {
+        Counted::Regions(n) => match texts::gather(text, w, h, rects, n, bytes, spans) {
+            Gathered::Texts(used) => RegionsRead::Read(n, used),
+            Gathered::NotGathered(r) => RegionsRead::NotRead(r),
+        },
+        Counted::NotCounted(r) => RegionsRead::NotRead(r),
     }
 }
