@@ -8,7 +8,9 @@ use Rattle.lists.specs.Answer.{ok, refused, _>>=_}
 use Rattle.lists.specs.Picture.{canvas}
 use Rattle.model.specs.Limits.{canvasSize}
 use Rattle.model.specs.declared.Rect.{Rect}
+use Rattle.model.specs.Refusals.{Reading}
 use Rattle.model.specs.declared.Refusal.{Refusal}
+use Rattle.model.specs.declared.Refusal.the-variants.{InvalidUtf8}
 use Rattle.layers.specs.Body.{bodyPicture}
 use Rattle.layers.specs.Grid.{gridPicture}
 use Rattle.layers.specs.Sizes.{BodyIn}
@@ -16,13 +18,23 @@ use Rattle.layers.specs.Thin.{thinPicture}
 use Rattle.outline.specs.Outline.{outlineOf}
 use Rattle.outline.specs.declared.Outline.{Outline}
 use Rattle.outline.proofs.InsideLaws.{outline-inside}
-use Rattle.scan.specs.Canvas.{sizeOf, textIn, blanksIn, scannedIn}
+use Rattle.scan.specs.Canvas.{rowsAt, sizeOf, textIn, blanksIn, scannedIn}
 use Rattle.scan.specs.Rows.{widest}
 use Rattle.scan.specs.declared.Scanned.the-variants.{Canvas, NotScanned}
 use Rattle.scan.proofs.Answers.{scanned-size, fits-size}
 use Rattle.scan.proofs.TextLayer.{text-canvas, blanks-canvas}
-use Rattle.canvas.specs.Layers.{textLayer, drawingOf}
+use Rattle.unicode.specs.Utf8.{checked}
+use Rattle.unicode.specs.declared.Checked.the-variants.{Valid, Invalid}
+use Rattle.canvas.specs.Layers.{textLayer, drawingOf, sheetOf}
 use Rattle.canvas.specs.Drawn.{Shown}
+
+pub ill-formed : (s : List ℕ) (at : ℕ) → checked s ≡ Invalid at → refused (InvalidUtf8 at) ≡ sheetOf s
+unfolding sheetOf
+ill-formed s at e = rw e
+
+pub well-formed : (s : List ℕ) (d : Reading Outline) → checked s ≡ Valid → d ≡ drawingOf (rowsAt s 0) → d ≡ sheetOf s
+unfolding sheetOf
+well-formed s d e f = f ∙ rw e
 
 pub scan-refused : (rs : List (List ℕ)) (r : Refusal) → scannedIn (NotScanned r) ≡ sizeOf rs → refused r ≡ drawingOf rs
 unfolding drawingOf

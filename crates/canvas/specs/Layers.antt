@@ -2,17 +2,19 @@
 use mathlib.Core.List.{List, map}
 use Prim.Native.Nat.{ℕ}
 use lib.ListN.{length}
-use Rattle.lists.specs.Answer.{_>>=_}
+use Rattle.lists.specs.Answer.{refused, _>>=_}
 use Rattle.lists.specs.Picture.{Picture, canvas}
 use Rattle.model.specs.Refusals.{Reading}
 use Rattle.model.specs.declared.Rect.{Rect}
+use Rattle.model.specs.declared.Refusal.the-variants.{InvalidUtf8}
 use Rattle.layers.specs.Body.{bodyPicture}
 use Rattle.layers.specs.Grid.{gridPicture}
 use Rattle.layers.specs.Thin.{thinPicture}
 use Rattle.outline.specs.Outline.{outlineOf}
 use Rattle.outline.specs.declared.Outline.{Outline}
-use Rattle.scan.specs.Canvas.{sizeOf}
+use Rattle.scan.specs.Canvas.{rowsAt, sizeOf}
 use Rattle.scan.specs.Rows.{widest, blank, flat}
+use Rattle.unicode.specs.Utf8.{checked, onText}
 
 -- TEXT: the rows, each filled to the longest
 abbrev pub textLayer : List (List ℕ) → Picture
@@ -35,3 +37,7 @@ unfoldable pub drawingOf : List (List ℕ) → Reading Outline
 drawingOf rs = do
   size ← sizeOf rs
   outlineOf (textLayer rs) (size .width) (size .height)
+
+-- the outline of the first sheet in some bytes: number 1 comes first, wherever the ill-formed bytes stand
+unfoldable pub sheetOf : List ℕ → Reading Outline
+sheetOf s = onText (checked s) (λ at. refused (InvalidUtf8 at)) (drawingOf (rowsAt s 0))

@@ -6,6 +6,7 @@ use outline::Outlined;
 use regions::Counted;
 use scan::Scanned;
 use texts::Gathered;
+use unicode::Checked;
 ghost use mathlib.Core.Path.{_≡_};
 ghost use Prim.Native.Nat.{_≤_};
 ghost use lib.ListN.{length};
@@ -15,7 +16,7 @@ ghost use Rattle.layers.specs.Grid.{gridPicture};
 ghost use Rattle.layers.specs.Sizes.{LayersOf, BodyIn};
 ghost use Rattle.layers.specs.Thin.{thinPicture};
 ghost use Rattle.scan.specs.Canvas.{rowsAt};
-ghost use Rattle.canvas.specs.Layers.{drawingOf};
+ghost use Rattle.canvas.specs.Layers.{drawingOf, sheetOf};
 ghost use Rattle.canvas.specs.Drawn.{outlineIn, LayersIn, Ended, Room};
 ghost use Rattle.canvas.specs.RegionTexts.{regionTextsOf, regionsIn, UsedIn, RegionRoom};
 
@@ -72,6 +73,25 @@ pub fn draw(
             Outlined::NotOutlined(r) => Drawing::NotDrawn(r),
         },
         Scanned::NotScanned(r) => Drawing::NotDrawn(r),
+    }
+}
+
+// Draws the first sheet in a text that has to be well-formed.
+pub fn draw_sheet(
+    s: &[u8],
+    text: &mut [u32],
+    thins: &mut [u32],
+    bodies: &mut [u32],
+    grid: &mut [u32],
+) -> Drawing
+    requires { ⌜ Room (now text) (now thins) (now bodies) (now grid) ⌝ }
+    ensures answer { λ r. ⌜ outlineIn r ≡ sheetOf (now (s .entry)) ⌝ }
+    ensures layers { λ r. ⌜ LayersIn r (rowsAt (now (s .entry)) 0) (now (text .exit)) (now (thins .exit)) (now (bodies .exit)) (now (grid .exit)) ⌝ }
+    ensures end { λ r. ⌜ Ended r (now (s .entry)) 0 ⌝ }
+{
+    match unicode::validate(s) {
+        Checked::Valid => draw(s, 0, text, thins, bodies, grid),
+        Checked::Invalid(at) => Drawing::NotDrawn(Refusal::InvalidUtf8(at)),
     }
 }
 

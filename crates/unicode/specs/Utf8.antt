@@ -76,6 +76,11 @@ check zero at (b ∷ s) = onward (decode (b ∷ s)) (Invalid at) (λ c skip. che
 abbrev pub checked : List ℕ → Checked
 checked s = check 0 0 s
 
+-- a check's answer: what follows for well-formed bytes, or for the index of the first ill-formed sequence
+abbrev pub onText : {A : Type 0} → Checked → (ℕ → A) → A → A
+onText Valid bad a = a
+onText (Invalid at) bad a = bad at
+
 -- the code points, up to the first ill-formed sequence
 unfoldable pub read : ℕ → List ℕ → List ℕ
 read skip [] = []

@@ -10,9 +10,7 @@ use Rattle.lists.specs.Choose.{choose}
 use Rattle.lists.specs.Put.{put}
 use Rattle.model.specs.Refusals.{Reading}
 use Rattle.model.specs.declared.Refusal.the-variants.{InvalidUtf8, OutputSliceShort}
-use Rattle.unicode.specs.Utf8.{checked}
-use Rattle.unicode.specs.declared.Checked.{Checked}
-use Rattle.unicode.specs.declared.Checked.the-variants.{Valid, Invalid}
+use Rattle.unicode.specs.Utf8.{checked, onText}
 use Rattle.utils.specs.Commas.{parts}
 use Rattle.utils.specs.Emphasis.{Choice, plain, marked, startsWith, firstMarked}
 use Rattle.utils.specs.declared.Split.{Split}
@@ -48,10 +46,6 @@ splitBy (marked place part bare) t room =
     choose (ltb room (length (replaceAll 0 part bare t)))
     (refused (OutputSliceShort (length (replaceAll 0 part bare t))))
     (ok (valuesBy (marked place part bare) t))
-
-abbrev pub onText : {A : Type 0} → Checked → (ℕ → A) → A → A
-onText Valid bad a = a
-onText (Invalid at) bad a = bad at
 
 -- what the split answers: number 1 for ill-formed UTF-8
 unfoldable pub splitOf : List ℕ → ℕ → Reading Values
