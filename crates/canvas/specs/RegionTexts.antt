@@ -10,7 +10,8 @@ use Rattle.model.specs.declared.Rect.{Rect}
 use Rattle.regions.specs.Rects.{rectsOf, Layer}
 use Rattle.regions.specs.Regions.{regionsOf}
 use Rattle.texts.specs.RegionText.{textsOf}
-use Rattle.texts.specs.Spans.{textsIn, SpansIn}
+use Rattle.cells.specs.Spans.{textsIn}
+use Rattle.texts.specs.Spans.{SpansIn}
 use Rattle.texts.specs.declared.Gathered.the-variants.{Texts}
 use Rattle.canvas.specs.declared.RegionsRead.{RegionsRead}
 use Rattle.canvas.specs.declared.RegionsRead.the-variants.{Read, NotRead}

@@ -2,6 +2,7 @@
 use mathlib.Core.Path.{_≡_, refl, ap, _∙_}
 use mathlib.Core.List.{List, [], _∷_, _++_, map}
 use Prim.Native.Nat.{ℕ, zero, suc, _+_, _≤_, _<_}
+use native.Mathlib.Numerals.{add-one}
 use native.Mathlib.Omega.{arith}
 use lib.ListN.{length, getD}
 use Rattle.lists.specs.Run.{run, build}
@@ -49,6 +50,9 @@ module _ {A : Type 0} where
 
   pub getD-build : (n : ℕ) (f : ℕ → A) (j : ℕ) (d : A) → j < n → getD (build n f) j d ≡ f j
   getD-build n f j d h = let e : 0 + j ≡ j = omega arith in getD-run f 0 n j d h ∙ ap f e
+
+  pub build-next : (n : ℕ) (f : ℕ → A) → build (n + 1) f ≡ build n f ++ (f n ∷ [])
+  build-next n f = let e : 0 + n ≡ n = omega arith in rw (add-one n) (run-next f 0 n ∙ ap (λ (k : ℕ). build n f ++ (f k ∷ [])) e)
 
   -- a list is built from its elements
   pub build-getD : (l : List A) (d : A) → build (length l) (λ i. getD l i d) ≡ l

@@ -32,6 +32,17 @@ turned-twice MainDoubleCrossing = refl
 turned-twice HorizontalDoubleCrossing = refl
 turned-twice VerticalDoubleCrossing = refl
 
+-- a turned cell's number fits as well
+pub turned-small : (c : Cell) → Small c → Small (turnedCell c)
+turned-small (Region r) h = h
+turned-small VerticalOutputDoubleLine h = omega arith
+turned-small VerticalAnnotationDoubleLine h = omega arith
+turned-small HorizontalOutputDoubleLine h = omega arith
+turned-small HorizontalAnnotationsDoubleLine h = omega arith
+turned-small MainDoubleCrossing h = h
+turned-small HorizontalDoubleCrossing h = omega arith
+turned-small VerticalDoubleCrossing h = omega arith
+
 -- the kind that a number holds, where it is none of 0 to 6
 pub last-kind : (k r : ℕ) → (k ≡ 0 → ⊥) → (k ≡ 1 → ⊥) → (k ≡ 2 → ⊥) → (k ≡ 3 → ⊥) → (k ≡ 4 → ⊥) → (k ≡ 5 → ⊥) → (k ≡ 6 → ⊥) → VerticalDoubleCrossing ≡ cellOfKind k r
 last-kind zero r a b c d e f g = absurd (a refl)

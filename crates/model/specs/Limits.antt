@@ -26,3 +26,7 @@ planeRows = 64
 
 abbrev pub planeCells : ℕ
 planeCells = 64
+
+-- the numbers of a slice that holds a plane: a length and the cells of each row
+abbrev pub planeSize : ℕ
+planeSize = 4160

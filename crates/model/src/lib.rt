@@ -5,7 +5,7 @@ ghost use Prim.Native.Nat.{_+_, _-_, _<_, _^_};
 ghost use lib.ListN.{drop};
 ghost use Rattle.model.specs.Geometry.{containsOf};
 ghost use Rattle.model.specs.Policies.{policyNumber, orientationNumber, policyOf, policyFound, placedPolicy};
-ghost use Rattle.model.specs.Cells.{cellNumber, cellOf, turnedCell, Small};
+ghost use Rattle.model.specs.Cells.{kindOf, regionOf, regionFound, sameKind, cellNumber, cellOf, turnedCell, Small};
 ghost use Rattle.model.specs.Refusals.{numbers};
 ghost use Rattle.model.specs.RuleNumbers.{numberOf, numberFound, unsigned};
 
@@ -337,6 +337,50 @@ pub fn rule_number(s: &[u8]) -> RuleNumber
     unsigned_number(s, 0)
 }
 
+// The number of a cell's kind.
+fn kind_of(c: Cell) -> u32
+    ensures { λ r. ⌜ r ≡ kindOf c ⌝ }
+{
+    match c {
+        Cell::Region(_) => 0,
+        Cell::VerticalOutputDoubleLine => 1,
+        Cell::VerticalAnnotationDoubleLine => 2,
+        Cell::HorizontalOutputDoubleLine => 3,
+        Cell::HorizontalAnnotationsDoubleLine => 4,
+        Cell::MainDoubleCrossing => 5,
+        Cell::HorizontalDoubleCrossing => 6,
+        Cell::VerticalDoubleCrossing => 7,
+    }
+}
+
+// The number of a cell's region, if it has one.
+pub enum CellRegion {
+    Number(usize),
+    NoRegion,
+}
+
+pub fn region_of(c: Cell) -> CellRegion
+    ensures { λ r. ⌜ regionFound r ≡ regionOf c ⌝ }
+{
+    match c {
+        Cell::Region(r) => CellRegion::Number(r as usize),
+        Cell::VerticalOutputDoubleLine => CellRegion::NoRegion,
+        Cell::VerticalAnnotationDoubleLine => CellRegion::NoRegion,
+        Cell::HorizontalOutputDoubleLine => CellRegion::NoRegion,
+        Cell::HorizontalAnnotationsDoubleLine => CellRegion::NoRegion,
+        Cell::MainDoubleCrossing => CellRegion::NoRegion,
+        Cell::HorizontalDoubleCrossing => CellRegion::NoRegion,
+        Cell::VerticalDoubleCrossing => CellRegion::NoRegion,
+    }
+}
+
+// Whether two cells are of one kind.
+pub fn same_kind(a: Cell, b: Cell) -> bool
+    ensures { λ r. ⌜ r ≡ sameKind a b ⌝ }
+{
+    kind_of(a) == kind_of(b)
+}
+
 // The number that a slice holds for a cell.
 pub fn cell_number(c: Cell) -> u32
     requires { ⌜ Small c ⌝ }
@@ -356,7 +400,8 @@ pub fn cell_number(c: Cell) -> u32
 
 // The cell for which a slice holds a number.
 pub fn cell_of(n: u32) -> Cell
-    ensures { λ r. ⌜ r ≡ cellOf n ⌝ }
+    ensures cell { λ r. ⌜ r ≡ cellOf n ⌝ }
+    ensures small { λ r. ⌜ Small r ⌝ }
 {
     let kind = n % 8;
     match kind {

@@ -24,8 +24,8 @@ pub enum Counted {
     NotCounted(Refusal),
 }
 
-// Whether a region starts at a character.
-fn is_corner(code: u32) -> bool
+// Whether a frame starts at a character.
+pub fn is_corner(code: u32) -> bool
     ensures { λ r. ⌜ r ≡ isCorner code ⌝ }
 {
     match code {

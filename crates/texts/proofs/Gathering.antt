@@ -16,7 +16,8 @@ use Rattle.model.specs.Limits.{textBytes}
 use Rattle.model.specs.declared.Refusal.the-variants.{OverLimit}
 use Rattle.regions.specs.Rects.{rectAt, rectsOf, RectIn}
 use Rattle.texts.specs.RegionText.{textOf, packed, textsOf}
-use Rattle.texts.specs.Spans.{offsetAt, lengthAt, textAt, textsIn, SpansIn, Slices, PutAt}
+use Rattle.cells.specs.Spans.{offsetAt, lengthAt, textAt, textsIn}
+use Rattle.texts.specs.Spans.{SpansIn, Slices, PutAt}
 use Rattle.texts.specs.declared.Gathered.the-variants.{Texts}
 use Rattle.texts.proofs.BuildLaws.{build-next, grows}
 use Rattle.texts.proofs.SpanLaws.{spanned, offset-before, length-before, offset-here, length-here, text-before, text-here}

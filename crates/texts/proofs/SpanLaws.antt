@@ -6,7 +6,7 @@ use native.Mathlib.Omega.{arith}
 use lib.ListN.{length, getD, take, drop, set, length-set, length-drop, take-append-drop}
 use lib.Seq.{length-take-le, take-append-le, take-append-seam, drop-append-le, drop-at, getD-set-same, getD-set-other}
 use Rattle.lists.specs.Put.{put}
-use Rattle.texts.specs.Spans.{offsetAt, lengthAt, textAt}
+use Rattle.cells.specs.Spans.{offsetAt, lengthAt, textAt}
 
 part-left : (u v : List ℕ) (off len : ℕ) → off + len ≤ length u → take len (drop off (u ++ v)) ≡ take len (drop off u)
 part-left u v off len h =

@@ -1,30 +1,17 @@
--- Texts in a slice of bytes, each told by its offset and its length in a slice of two numbers each.
+-- What gathering texts answers, with the slices that hold them.
 use mathlib.Core.List.{List}
 use mathlib.Core.Path.{_≡_}
 use Prim.Native.Nat.{ℕ, _+_, _*_, _≤_, _<_, min}
-use lib.ListN.{length, getD, take, drop}
+use lib.ListN.{length}
 use Rattle.lists.specs.Answer.{ok, refused}
 use Rattle.lists.specs.Put.{put}
-use Rattle.lists.specs.Run.{run}
 use Rattle.model.specs.Limits.{textBytes}
 use Rattle.model.specs.Refusals.{Reading}
+use Rattle.cells.specs.Spans.{offsetAt, lengthAt, textsIn}
 use Rattle.regions.specs.Rects.{rectAt, RectIn}
 use Rattle.texts.specs.RegionText.{packed}
 use Rattle.texts.specs.declared.Gathered.{Gathered}
 use Rattle.texts.specs.declared.Gathered.the-variants.{Texts, NotGathered}
-
-abbrev pub offsetAt : List ℕ → ℕ → ℕ
-offsetAt spans k = getD spans (k * 2) 0
-
-abbrev pub lengthAt : List ℕ → ℕ → ℕ
-lengthAt spans k = getD spans (k * 2 + 1) 0
-
-abbrev pub textAt : List ℕ → List ℕ → ℕ → List ℕ
-textAt bytes spans k = take (lengthAt spans k) (drop (offsetAt spans k) bytes)
-
--- the first n texts
-abbrev pub textsIn : List ℕ → List ℕ → ℕ → List (List ℕ)
-textsIn bytes spans n = run (textAt bytes spans) 0 n
 
 -- an answer's texts, with the slices that hold them
 abbrev pub gatheredIn : Gathered → List ℕ → List ℕ → ℕ → Reading (List (List ℕ))

@@ -1,16 +1,18 @@
 -- One text put for another everywhere: how long the result is, and how it is written.
 use mathlib.Core.Path.{_≡_, refl, sym, ap, _∙_}
-use mathlib.Core.Bool.{Bool, true, false}
+use mathlib.Core.Bool.{true, false}
 use mathlib.Core.List.{List, [], _∷_, _++_, append-assoc, append-nil}
 use Prim.Native.Nat.{ℕ, zero, suc, _+_, _-_, _≤_, _<_}
+use native.Mathlib.Nat.{add-zero}
 use native.Mathlib.Omega.{arith}
-use lib.ListN.{length, getD, drop, set, length-append, length-set, drop-of-length-le}
-use lib.Seq.{drop-drop}
+use lib.ListN.{length, getD, take, drop, length-append, length-drop, drop-of-length-le}
+use lib.Seq.{drop-drop, length-take-le}
 use Rattle.lists.specs.Put.{put}
 use Rattle.lists.proofs.Parts.{at-cons}
-use Rattle.lists.proofs.PutLaws.{put-nil, put-next, put-snoc}
+use Rattle.lists.proofs.PutLaws.{put-nil, put-next}
 use Rattle.lists.proofs.Tests.{by-flag}
 use Rattle.utils.specs.Emphasis.{startsWith}
+use Rattle.utils.specs.Periods.{FirstPlace}
 use Rattle.utils.specs.Split.{replaceAll}
 use Rattle.utils.proofs.StartsWith.{starts-fits, starts-inside}
 
@@ -32,17 +34,37 @@ replace-front p q (c ∷ s) n h =
     let m : suc (length p - 1) ≡ length p = omega arith in
     rw h (ap (λ (x : List ℕ). q ++ x) (skip-replace (length p - 1) p q s ∙ ap (λ (k : ℕ). replaceAll 0 p q (drop k (c ∷ s))) m))
 
--- at a place where p stands, and where it does not
-module _ (p q s : List ℕ) (i : ℕ) {t : Bool} (r : t ≡ startsWith p (drop i s)) where
-  replace-hit : 0 < length p → t ≡ true → replaceAll 0 p q (drop i s) ≡ q ++ replaceAll 0 p q (drop (i + length p) s)
-  replace-hit n h =
-      replace-front p q (drop i s) n (sym r ∙ h) ∙ ap (λ (x : List ℕ). q ++ replaceAll 0 p q x) (drop-drop (length p) i s)
+module _ (p q s : List ℕ) where
+  -- at a place where p stands, and where it does not
+  replace-hit : (i : ℕ) → 0 < length p → startsWith p (drop i s) ≡ true → replaceAll 0 p q (drop i s) ≡ q ++ replaceAll 0 p q (drop (i + length p) s)
+  replace-hit i n h = replace-front p q (drop i s) n h ∙ ap (λ (x : List ℕ). q ++ replaceAll 0 p q x) (drop-drop (length p) i s)
 
-  replace-miss : i < length s → t ≡ false → replaceAll 0 p q (drop i s) ≡ getD s i 0 ∷ replaceAll 0 p q (drop (i + 1) s)
+  replace-miss : (i : ℕ) → i < length s → startsWith p (drop i s) ≡ false → replaceAll 0 p q (drop i s) ≡ getD s i 0 ∷ replaceAll 0 p q (drop (i + 1) s)
   unfolding replaceAll
-  replace-miss l h =
-      let v : startsWith p (getD s i 0 ∷ drop (i + 1) s) ≡ false = rw (at-cons s i 0 l) at (sym r ∙ h) in
+  replace-miss i l h =
+      let v : startsWith p (getD s i 0 ∷ drop (i + 1) s) ≡ false = rw (at-cons s i 0 l) at h in
       rw (at-cons s i 0 l, v)
+
+  -- n places where it does not
+  replace-run : (n i : ℕ) → i + n ≤ length s → ((x : ℕ) → i ≤ x → x < i + n → startsWith p (drop x s) ≡ false)
+      → replaceAll 0 p q (drop i s) ≡ take n (drop i s) ++ replaceAll 0 p q (drop (i + n) s)
+  replace-run zero i l f = rw (add-zero i)
+  replace-run (suc n) i l f =
+      let e : i + 1 + n ≡ i + suc n = omega arith in
+      let t : take (suc n) (drop i s) ≡ getD s i 0 ∷ take n (drop (i + 1) s) = ap (take (suc n)) (at-cons s i 0 (omega arith)) in
+      replace-miss i (omega arith) (f i (omega arith) (omega arith))
+      ∙ ap (λ (x : List ℕ). getD s i 0 ∷ x) (replace-run n (i + 1) (omega arith) (λ x a b. f x (omega arith) (omega arith)))
+      ∙ rw (t, e)
+
+  -- up to the first place where it stands
+  replace-first : (i r : ℕ) → FirstPlace s i p r → replaceAll 0 p q (drop i s) ≡ take (r - i) (drop i s) ++ replaceAll 0 p q (drop r s)
+  replace-first i r f =
+      let e : i + (r - i) ≡ r = omega (arith, f .low) in
+      rw e at (replace-run (r - i) i (omega (arith, f .high)) (λ x a b. f .none x a (omega arith)))
+
+-- the part before it
+first-length : (s p : List ℕ) (i r : ℕ) → FirstPlace s i p r → length (take (r - i) (drop i s)) ≡ r - i
+first-length s p i r f = length-take-le (r - i) (drop i s) (omega (arith, length-drop i s, f .high))
 
 -- n bytes for the text before i
 pub record Measuring (p q s : List ℕ) (i n : ℕ) : Type 0 where
@@ -58,20 +80,22 @@ module _ {p q s : List ℕ} {i n : ℕ} (m : Measuring p q s i n) where
   pub measuring-end : length s ≤ i → n ≡ length (replaceAll 0 p q s)
   measuring-end h = omega (arith, ap length (replace-end p q s i h), m .same)
 
-  module _ {t : Bool} (r : t ≡ startsWith p (drop i s)) where
-    pub measuring-fits : t ≡ true → i + length p ≤ length s
-    measuring-fits h = starts-inside p s i (m .inside) (sym r ∙ h)
+  pub measuring-copy : {r : ℕ} → FirstPlace s i p r → Measuring p q s r (n + (r - i))
+  measuring-copy {r} f =
+      let e = ap length (replace-first p q s i r f) in
+      let a = length-append (take (r - i) (drop i s)) (replaceAll 0 p q (drop r s)) in
+      let b = first-length s p i r f in
+      record { sizes = m .sizes; inside = f .high; less = omega (arith, m .less, f .low); same = m .same ∙ omega arith }
 
-    pub measuring-hit : t ≡ true → Measuring p q s (i + length p) (n + length q)
-    measuring-hit h =
-        let e = ap length (replace-hit p q s i r (m .sizes .0) h) in
+  module _ (h : startsWith p (drop i s) ≡ true) where
+    pub measuring-fits : i + length p ≤ length s
+    measuring-fits = starts-inside p s i (m .inside) h
+
+    pub measuring-hit : Measuring p q s (i + length p) (n + length q)
+    measuring-hit =
+        let e = ap length (replace-hit p q s i (m .sizes .0) h) in
         let a = length-append q (replaceAll 0 p q (drop (i + length p) s)) in
-        record { sizes = m .sizes; inside = measuring-fits h; less = omega (arith, m .less, m .sizes); same = omega (arith, m .same) }
-
-    pub measuring-miss : i < length s → t ≡ false → Measuring p q s (i + 1) (n + 1)
-    measuring-miss l h =
-        let e = ap length (replace-miss p q s i r l h) in
-        record { sizes = m .sizes; inside = omega arith; less = omega (arith, m .less); same = omega (arith, m .same) }
+        record { sizes = m .sizes; inside = measuring-fits; less = omega (arith, m .less, m .sizes); same = omega (arith, m .same) }
 
 -- `written` stands in the slice d, for the text before i
 pub record Rewriting (p q s d out : List ℕ) (i n : ℕ) : Type 0 where
@@ -89,68 +113,53 @@ rewriting-start {p} {q} {s} {d} z =
     record { written = []; some = z .0; room = z .1; inside = omega arith; sized = refl; same = refl; done = sym (put-nil d 0); long = refl }
 
 module _ {p q s d out : List ℕ} {i n : ℕ} (m : Rewriting p q s d out i n) where
-  fits : (v w : List ℕ) → replaceAll 0 p q (drop i s) ≡ v ++ w → n + length v ≤ length d
-  fits v w e =
-      let a = ap length (m .same) in
-      let b = length-append (m .written) (replaceAll 0 p q (drop i s)) in
-      let c = ap length e in
-      let f = length-append v w in
-      omega (arith, m .sized, m .room)
-
-  -- one piece more is written
-  next : (v w : List ℕ) → replaceAll 0 p q (drop i s) ≡ v ++ w → replaceAll 0 p q s ≡ (m .written ++ v) ++ w
-  next v w e = m .same ∙ ap (λ (x : List ℕ). m .written ++ x) e ∙ sym (append-assoc (m .written) v w)
-
   pub rewriting-end : length s ≤ i → out ≡ put d 0 (replaceAll 0 p q s)
   rewriting-end h = m .done ∙ ap (put d 0) (sym (m .same ∙ ap (λ (x : List ℕ). m .written ++ x) (replace-end p q s i h) ∙ append-nil (m .written)))
 
-  module _ {t : Bool} (r : t ≡ startsWith p (drop i s)) where
-    module _ (h : t ≡ true) where
-      hit : replaceAll 0 p q (drop i s) ≡ q ++ replaceAll 0 p q (drop (i + length p) s)
-      hit = replace-hit p q s i r (m .some) h
+  -- one piece more, for the text up to k
+  module _ (v : List ℕ) (k : ℕ) (e : replaceAll 0 p q (drop i s) ≡ v ++ replaceAll 0 p q (drop k s)) where
+    fits : n + length v ≤ length d
+    fits =
+        let a = ap length (m .same) in
+        let b = length-append (m .written) (replaceAll 0 p q (drop i s)) in
+        let c = ap length e in
+        let f = length-append v (replaceAll 0 p q (drop k s)) in
+        omega (arith, m .sized, m .room)
 
-      pub rewriting-inside : i + length p ≤ length s
-      rewriting-inside = starts-inside p s i (m .inside) (sym r ∙ h)
+    piece : (w : ℕ) → w ≡ length v → k ≤ length s → {o : List ℕ} → o ≡ put out n v → length o ≡ length out → Rewriting p q s d o k (n + w)
+    piece w x l u y =
+        let a = fits in
+        let g = m .sized in
+        record {
+          written = m .written ++ v;
+          some = m .some;
+          room = m .room;
+          inside = l;
+          sized = omega (arith, length-append (m .written) v);
+          same = m .same ∙ ap (λ (z : List ℕ). m .written ++ z) e ∙ sym (append-assoc (m .written) v _);
+          done = u ∙ ap (λ (z : List ℕ). put z n v) (m .done) ∙ put-next d 0 (m .written) v n (omega arith) (omega arith);
+          long = y ∙ m .long;
+        }
 
-      pub rewriting-fits : n + length q ≤ length out
-      rewriting-fits = omega (arith, fits q _ hit, m .long)
+  module _ {r : ℕ} (f : FirstPlace s i p r) where
+    pub rewriting-room : n + length (take (r - i) (drop i s)) ≤ length out
+    rewriting-room = omega (arith, fits (take (r - i) (drop i s)) r (replace-first p q s i r f), m .long)
 
-      pub rewriting-hit : {o : List ℕ} → o ≡ put out n q → length o ≡ length out → Rewriting p q s d o (i + length p) (n + length q)
-      rewriting-hit {o} u v =
-          let a = fits q _ hit in
-          let g = m .sized in
-          record {
-            written = m .written ++ q;
-            some = m .some;
-            room = m .room;
-            inside = rewriting-inside;
-            sized = omega (arith, length-append (m .written) q);
-            same = next q _ hit;
-            done = u ∙ ap (λ (x : List ℕ). put x n q) (m .done) ∙ put-next d 0 (m .written) q n (omega arith) (omega arith);
-            long = v ∙ m .long;
-          }
+    pub rewriting-reach : n + (r - i) ≤ length out
+    rewriting-reach = omega (arith, rewriting-room, first-length s p i r f)
 
-    module _ (l : i < length s) (h : t ≡ false) where
-      miss : replaceAll 0 p q (drop i s) ≡ (getD s i 0 ∷ []) ++ replaceAll 0 p q (drop (i + 1) s)
-      miss = replace-miss p q s i r l h
+    pub rewriting-copy : {o : List ℕ} → o ≡ put out n (take (r - i) (drop i s)) → length o ≡ length out → Rewriting p q s d o r (n + (r - i))
+    rewriting-copy = piece (take (r - i) (drop i s)) r (replace-first p q s i r f) (r - i) (sym (first-length s p i r f)) (f .high)
 
-      pub rewriting-room : n < length out
-      rewriting-room = omega (arith, fits (getD s i 0 ∷ []) _ miss, m .long)
+  module _ (h : startsWith p (drop i s) ≡ true) where
+    pub rewriting-inside : i + length p ≤ length s
+    rewriting-inside = starts-inside p s i (m .inside) h
 
-      pub rewriting-miss : Rewriting p q s d (set out n (getD s i 0)) (i + 1) (n + 1)
-      rewriting-miss =
-          let a = fits (getD s i 0 ∷ []) _ miss in
-          let g = m .sized in
-          record {
-            written = m .written ++ (getD s i 0 ∷ []);
-            some = m .some;
-            room = m .room;
-            inside = omega arith;
-            sized = omega (arith, length-append (m .written) (getD s i 0 ∷ []));
-            same = next (getD s i 0 ∷ []) _ miss;
-            done = ap (λ (x : List ℕ). set x n (getD s i 0)) (m .done) ∙ put-snoc d 0 (m .written) (getD s i 0) n (omega arith) (omega arith);
-            long = length-set out n (getD s i 0) ∙ m .long;
-          }
+    pub rewriting-fits : n + length q ≤ length out
+    rewriting-fits = omega (arith, fits q (i + length p) (replace-hit p q s i (m .some) h), m .long)
+
+    pub rewriting-hit : {o : List ℕ} → o ≡ put out n q → length o ≡ length out → Rewriting p q s d o (i + length p) (n + length q)
+    rewriting-hit = piece q (i + length p) (replace-hit p q s i (m .some) h) (length q) refl rewriting-inside
 
 -- a shorter text put for another makes no text longer
 module _ (p q : List ℕ) (some : 0 < length p) (shorter : length q ≤ length p) where

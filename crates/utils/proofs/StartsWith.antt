@@ -2,12 +2,13 @@
 use mathlib.Core.Path.{_≡_, refl, sym, ap, _∙_}
 use mathlib.Core.Bool.{Bool, true, false, _&&_}
 use mathlib.Core.List.{List, [], _∷_}
-use Prim.Native.Nat.{ℕ, _+_, _-_, _≤_, _<_}
+use Prim.Native.Nat.{ℕ, zero, suc, _+_, _-_, _≤_, _<_}
 use native.Mathlib.Nat.{add-zero}
 use native.Mathlib.Omega.{arith}
-use borrow.Author.Tests.{eq-eqb, ne-eqb, le-leb, lt-leb, leb-true}
+use borrow.Author.Tests.{eqb-true, eq-eqb, ne-eqb, le-leb, lt-leb, leb-true}
 use lib.Dec.{eqb, leb}
 use lib.ListN.{length, getD, drop, length-drop, drop-of-length-le}
+use lib.Seq.{getD-drop}
 use Rattle.lists.proofs.Parts.{at-cons}
 use Rattle.lists.proofs.Tests.{both, true-false}
 use Rattle.utils.specs.Emphasis.{startsWith, endsWith}
@@ -61,6 +62,29 @@ starts-fits (a ∷ p) (b ∷ s) e = let h = starts-fits p s (both (eqb b a) (sta
 
 pub starts-inside : (p s : List ℕ) (at : ℕ) → at ≤ length s → startsWith p (drop at s) ≡ true → at + length p ≤ length s
 starts-inside p s at l e = omega (arith, starts-fits p (drop at s) e, length-drop at s)
+
+-- byte by byte
+starts-bytes : (p s : List ℕ) → startsWith p s ≡ true → (k : ℕ) → k < length p → getD s k 0 ≡ getD p k 0
+unfolding startsWith
+starts-bytes [] s e k h = absurd (omega arith)
+starts-bytes (a ∷ p) [] e k h = true-false e refl
+starts-bytes (a ∷ p) (b ∷ s) e zero h = eqb-true b a (both (eqb b a) (startsWith p s) e .0)
+starts-bytes (a ∷ p) (b ∷ s) e (suc k) h = starts-bytes p s (both (eqb b a) (startsWith p s) e .1) k (omega arith)
+
+bytes-start : (p s : List ℕ) → length p ≤ length s → ((k : ℕ) → k < length p → getD s k 0 ≡ getD p k 0) → startsWith p s ≡ true
+unfolding startsWith
+bytes-start [] s l h = refl
+bytes-start (a ∷ p) [] l h = absurd (omega arith)
+bytes-start (a ∷ p) (b ∷ s) l h =
+    rw (eq-eqb b a (h 0 (omega arith)), bytes-start p s (omega arith) (λ k x. h (suc k) (omega arith)))
+
+-- p stands in s from x on
+module _ (p s : List ℕ) (x : ℕ) where
+  pub place-bytes : startsWith p (drop x s) ≡ true → (k : ℕ) → k < length p → getD s (x + k) 0 ≡ getD p k 0
+  place-bytes e k h = sym (getD-drop x s k 0) ∙ starts-bytes p (drop x s) e k h
+
+  pub bytes-place : x + length p ≤ length s → ((k : ℕ) → k < length p → getD s (x + k) 0 ≡ getD p k 0) → startsWith p (drop x s) ≡ true
+  bytes-place l h = bytes-start p (drop x s) (omega (arith, length-drop x s)) (λ k y. getD-drop x s k 0 ∙ h k y)
 
 module _ (e s : List ℕ) where
   pub ends-short : length s < length e → false ≡ endsWith e s

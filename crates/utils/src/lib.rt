@@ -2,13 +2,16 @@
 use model::Refusal;
 use unicode::Checked;
 ghost use mathlib.Core.Bool.{_&&_};
+ghost use mathlib.Core.List.{List};
 ghost use mathlib.Core.Path.{_≡_};
-ghost use Prim.Native.Nat.{_-_, _+_, _≤_, _<_};
-ghost use lib.ListN.{length, take, drop};
+ghost use Prim.Native.Nat.{ℕ, _-_, _+_, _*_, _≤_, _<_};
+ghost use lib.Dec.{leb, ltb};
+ghost use lib.ListN.{length, take, drop, set};
 ghost use Rattle.lists.specs.Put.{put};
 ghost use Rattle.utils.specs.Emphasis.{startsWith, endsWith, stripStart, stripEnd, strip, marks, emphasised, marked};
 ghost use Rattle.utils.specs.Split.{replaceAll, splitOf, scratchOf, answered, Places, allowedIn};
 ghost use Rattle.utils.specs.Found.{PartEnd, MarkOf, FoundIn};
+ghost use Rattle.utils.specs.Periods.{Knows, Safe, Periods, FirstPlace};
 
 // Whether p stands at a place of s.
 fn starts_at(s: &[u8], at: usize, p: &[u8]) -> bool
@@ -191,42 +194,144 @@ fn first_marked(s: &[u8]) -> Found
     }
 }
 
-// How many bytes the text has with q for every p.
-fn measure(s: &[u8], p: &[u8], q: &[u8]) -> usize
-    requires { ⌜ (0 < length (now p)) × (length (now q) ≤ length (now p)) ⌝ }
-    ensures { λ r. ⌜ r ≡ length (replaceAll 0 (now (p .entry)) (now (q .entry)) (now (s .entry))) ⌝ }
+// Whether a period e that reaches `reach` tells of the first j bytes.
+fn covers(e: usize, reach: usize, j: usize) -> bool
+    ensures { λ r. ⌜ r ≡ (leb (4 * e) j && leb j reach) ⌝ }
+{
+    if e <= j / 4 { j <= reach } else { false }
+}
+
+// How far a text moves on after a mismatch, and how many of its bytes match there already.
+struct Shift {
+    by: usize,
+    keep: usize,
+}
+
+// The shift after j matched bytes, by the n periods in t.
+fn shift_after(t: &[usize], n: usize, j: usize) -> Shift
+    requires { ⌜ 2 * n ≤ length (now t) ⌝ }
+    ensures { λ r. ⌜ ((p : List ℕ) → Knows p (now (t .entry)) n j → Safe p j (r .by) (r .keep)) ⌝ }
 {
     let mut i: usize = 0;
-    let mut n: usize = 0;
-    while i < s.len() {
-        if starts_at(s, i, p) {
-            i += p.len();
-            n += q.len();
-        } else {
-            i += 1;
-            n += 1;
+    while i < n {
+        let e = t[2 * i];
+        if covers(e, t[2 * i + 1], j) {
+            return Shift { by: e, keep: j - e };
         }
+        i += 1;
+    }
+    Shift {
+        by: j / 4 + 1,
+        keep: 0,
+    }
+}
+
+// Whether a period e that reaches `reach` makes an entry behind those that reach `top`.
+fn is_new(e: usize, reach: usize, top: usize) -> bool
+    ensures { λ r. ⌜ r ≡ (leb (4 * e) reach && ltb top reach) ⌝ }
+{
+    if e <= reach / 4 { top < reach } else { false }
+}
+
+// Entry n of a table of periods.
+fn put_entry(t: &mut [usize], n: usize, e: usize, reach: usize)
+    requires { ⌜ 2 * n + 1 < length (now t) ⌝ }
+    ensures { λ _. ⌜ now (t .exit) ≡ set (set (now (t .entry)) (2 * n) e) (2 * n + 1) reach ⌝ }
+{
+    t[2 * n] = e;
+    t[2 * n + 1] = reach;
+}
+
+// The short periods of p, into t, by a search for p in itself after Galil and Seiferas 1983: how many. Each is more than
+// three times the one before, so that 40 have room for all.
+fn periods_of(p: &[u8], t: &mut [usize]) -> usize
+    requires { ⌜ (0 < length (now p)) × (80 ≤ length (now t)) ⌝ }
+    ensures { λ r. ⌜ Periods (now (p .entry)) (now (t .exit)) r ⌝ }
+{
+    let mut e: usize = 1;
+    let mut reach: usize = 1;
+    let mut n: usize = 0;
+    let mut top: usize = 0;
+    while reach < p.len() {
+        if p[reach] == p[reach - e] {
+            reach += 1;
+        } else if is_new(e, reach, top) {
+            put_entry(t, n, e, reach);
+            n += 1;
+            top = reach;
+        } else {
+            let s = shift_after(t, n, reach - e);
+            e += s.by;
+            reach = e + s.keep;
+        }
+    }
+    if is_new(e, reach, top) {
+        put_entry(t, n, e, reach);
+        return n + 1;
     }
     n
 }
 
-// The text with q for every p, into out.
-fn rewrite(s: &[u8], p: &[u8], q: &[u8], out: &mut [u8])
+// The first place r from `from` on where p stands in s, or the end, in at most 4 (r - from) + |p| turns.
+fn find(s: &[u8], from: usize, p: &[u8], t: &[usize], n: usize) -> usize
+    requires { ⌜ (from ≤ length (now s)) × Periods (now p) (now t) n ⌝ }
+    ensures { λ r. ⌜ FirstPlace (now (s .entry)) from (now (p .entry)) r ⌝ }
+{
+    let mut i = from;
+    let mut j: usize = 0;
+    while p.len() <= s.len() - i {
+        if j == p.len() {
+            return i;
+        }
+        if s[i + j] == p[j] {
+            j += 1;
+        } else {
+            let b = shift_after(t, n, j);
+            i += b.by;
+            j = b.keep;
+        }
+    }
+    s.len()
+}
+
+// How many bytes the text has with q for every p, whose n periods are in t.
+fn measure(s: &[u8], p: &[u8], q: &[u8], t: &[usize], n: usize) -> usize
+    requires { ⌜ (0 < length (now p)) × (length (now q) ≤ length (now p)) ⌝ }
+    requires { ⌜ Periods (now p) (now t) n ⌝ }
+    ensures { λ r. ⌜ r ≡ length (replaceAll 0 (now (p .entry)) (now (q .entry)) (now (s .entry))) ⌝ }
+{
+    let mut i: usize = 0;
+    let mut size: usize = 0;
+    while i < s.len() {
+        let r = find(s, i, p, t, n);
+        size += r - i;
+        if r == s.len() {
+            return size;
+        }
+        size += q.len();
+        i = r + p.len();
+    }
+    size
+}
+
+// The text with q for every p, whose n periods are in t, into out.
+fn rewrite(s: &[u8], p: &[u8], q: &[u8], t: &[usize], n: usize, out: &mut [u8])
     requires { ⌜ (0 < length (now p)) × (length (replaceAll 0 (now p) (now q) (now s)) ≤ length (now out)) ⌝ }
+    requires { ⌜ Periods (now p) (now t) n ⌝ }
     ensures { λ _. ⌜ now (out .exit) ≡ put (now (out .entry)) 0 (replaceAll 0 (now (p .entry)) (now (q .entry)) (now (s .entry))) ⌝ }
 {
     let mut i: usize = 0;
-    let mut n: usize = 0;
+    let mut at: usize = 0;
     while i < s.len() {
-        if starts_at(s, i, p) {
-            lists::put_bytes(out, n, q);
-            i += p.len();
-            n += q.len();
-        } else {
-            out[n] = s[i];
-            i += 1;
-            n += 1;
+        let r = find(s, i, p, t, n);
+        lists::put_bytes(out, at, &s[i..r]);
+        at += r - i;
+        if r == s.len() {
+            return;
         }
+        lists::put_bytes(out, at, q);
+        at += q.len();
+        i = r + p.len();
     }
 }
 
@@ -256,11 +361,13 @@ pub fn split_values(text: &[u8], scratch: &mut [u8]) -> Split
     let a = f.a;
     let b = f.b;
     if f.hit {
-        let n = measure(text, &text[from..to], &text[a..b]);
+        let mut t = [0usize; 80];
+        let k = periods_of(&text[from..to], &mut t);
+        let n = measure(text, &text[from..to], &text[a..b], &t, k);
         if scratch.len() < n {
             return Split::NotSplit(Refusal::OutputSliceShort(n));
         }
-        rewrite(text, &text[from..to], &text[a..b], scratch);
+        rewrite(text, &text[from..to], &text[a..b], &t, k, scratch);
         return Split::Rewritten(n, a, b);
     }
     Split::Own

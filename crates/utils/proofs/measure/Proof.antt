@@ -3,48 +3,59 @@ use Prim.Native.Nat.{_-_}
 use native.Mathlib.Omega.{arith}
 use borrow.Author.Needs.{needs}
 use lib.ListN.{length}
-use Rattle.utils.proofs.Replacing.{Measuring, measuring-start, measuring-end, measuring-fits, measuring-hit, measuring-miss}
+use Rattle.utils.proofs.Replacing.{Measuring, measuring-start, measuring-end, measuring-copy, measuring-fits, measuring-hit}
+use Rattle.utils.proofs.Searching.{found-here}
 use Rattle.utils.proofs.measure.Statement.{statement}
 use Rattle.utils.proofs.measure.Tie as tie
 
 abbrev Inv-loop : tie.InvT-loop
-Inv-loop s p q i₀ n₀ i n = Measuring p q s i n
+Inv-loop s p q t n i₀ size₀ i size = Measuring p q s i size
 
 abbrev μ-loop : tie.MeasureT-loop
-μ-loop s p q i₀ n₀ i n = length s - i
+μ-loop s p q t n i₀ size₀ i size = length s - i
 
 loop-holds : tie.Need-loop-holds Inv-loop μ-loop
-loop-holds c = measuring-start (c .before .before .before .pre)
+loop-holds c = measuring-start (c .before .before .before .before .pre .0)
 
-starts-at-requires : tie.Need-starts-at-requires Inv-loop μ-loop
-starts-at-requires c κs = search needs
+find-requires : tie.Need-find-requires Inv-loop μ-loop
+find-requires c κs = (c .before .loop .inv .inside, c .before .before .before .before .before .before .pre .1)
 
-add-i : tie.Need-add-i Inv-loop μ-loop
-add-i c = omega (arith, measuring-fits (c .before .before .before .loop .inv) (c .before .starts-at .ensures) (c .if1 .taken))
+sub-size : tie.Need-sub-size Inv-loop μ-loop
+sub-size c = search needs
 
-add-n : tie.Need-add-n Inv-loop μ-loop
-add-n c = omega (arith, measuring-fits (c .before .before .before .loop .inv) (c .before .starts-at .ensures) (c .if1 .taken), c .before .before .before .loop .inv .less, c .before .before .before .loop .inv .sizes)
-
-loop-less : tie.Need-loop-less Inv-loop μ-loop
-loop-less c = omega (arith, measuring-fits (c .before .before .before .loop .inv) (c .before .starts-at .ensures) (c .if1 .taken), c .before .before .before .loop .inv .sizes)
-
-loop-again : tie.Need-loop-again Inv-loop μ-loop
-loop-again c = measuring-hit (c .before .before .before .loop .inv) (c .before .starts-at .ensures) (c .if1 .taken)
-
-add-i-2 : tie.Need-add-i-2 Inv-loop μ-loop
-add-i-2 c = search needs
-
-add-n-2 : tie.Need-add-n-2 Inv-loop μ-loop
-add-n-2 c = search needs
-
-loop-less-2 : tie.Need-loop-less-2 Inv-loop μ-loop
-loop-less-2 c = search needs
-
-loop-again-2 : tie.Need-loop-again-2 Inv-loop μ-loop
-loop-again-2 c = measuring-miss (c .before .before .before .loop .inv) (c .before .starts-at .ensures) (c .before .before .loop-test .taken) (c .if1 .left)
+add-size : tie.Need-add-size Inv-loop μ-loop
+add-size c = let m = measuring-copy (c .before .before .loop .inv) (c .find .ensures) in omega (arith, m .less, m .inside)
 
 returns : tie.Need-returns Inv-loop μ-loop
-returns c = measuring-end (c .before .loop .inv) (c .loop-test .left)
+returns c = measuring-end (measuring-copy (c .before .before .before .loop .inv) (c .before .find .ensures)) (omega arith)
+
+add-size-2 : tie.Need-add-size-2 Inv-loop μ-loop
+add-size-2 c =
+    let f = c .before .find .ensures in
+    let m = measuring-copy (c .before .before .before .loop .inv) f in
+    let h = measuring-hit m (found-here f (c .if1 .left)) in
+    omega (arith, h .less, h .inside)
+
+add-i : tie.Need-add-i Inv-loop μ-loop
+add-i c =
+    let f = c .before .find .ensures in
+    let m = measuring-copy (c .before .before .before .loop .inv) f in
+    omega (arith, measuring-fits m (found-here f (c .if1 .left)))
+
+loop-less : tie.Need-loop-less Inv-loop μ-loop
+loop-less c =
+    let f = c .before .find .ensures in
+    let m = measuring-copy (c .before .before .before .loop .inv) f in
+    omega (arith, measuring-fits m (found-here f (c .if1 .left)), m .sizes .0, f .low)
+
+loop-again : tie.Need-loop-again Inv-loop μ-loop
+loop-again c =
+    let f = c .before .find .ensures in
+    let m = measuring-copy (c .before .before .before .loop .inv) f in
+    measuring-hit m (found-here f (c .if1 .left))
+
+returns-2 : tie.Need-returns-2 Inv-loop μ-loop
+returns-2 c = measuring-end (c .before .loop .inv) (c .loop-test .left)
 
 pub measure-spec : {M : Type 1} → statement M
 measure-spec =
@@ -53,13 +64,12 @@ measure-spec =
     Inv-loop
     μ-loop
     loop-holds
-    starts-at-requires
+    find-requires
+    sub-size
+    add-size
+    returns
+    add-size-2
     add-i
-    add-n
     loop-less
     loop-again
-    add-i-2
-    add-n-2
-    loop-less-2
-    loop-again-2
-    returns)
+    returns-2)

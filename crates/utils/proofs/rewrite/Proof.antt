@@ -3,76 +3,97 @@ use Prim.Native.Nat.{_-_}
 use native.Mathlib.Omega.{arith}
 use borrow.Author.Needs.{needs}
 use lib.ListN.{length}
-use Rattle.utils.proofs.Replacing.{Rewriting, rewriting-start, rewriting-end, rewriting-inside, rewriting-fits, rewriting-hit, rewriting-room, rewriting-miss}
+use Rattle.utils.proofs.Replacing.{Rewriting, rewriting-start, rewriting-end, rewriting-room, rewriting-reach, rewriting-copy, rewriting-inside, rewriting-fits, rewriting-hit}
+use Rattle.utils.proofs.Searching.{found-here}
 use Rattle.utils.proofs.rewrite.Statement.{statement}
 use Rattle.utils.proofs.rewrite.Tie as tie
 
 abbrev Inv-loop : tie.InvT-loop
-Inv-loop s p q out₀ i₀ n₀ out i n = Rewriting p q s out₀ out i n
+Inv-loop s p q t n out₀ i₀ at₀ out i at = Rewriting p q s out₀ out i at
 
 abbrev μ-loop : tie.MeasureT-loop
-μ-loop s p q out₀ i₀ n₀ out i n = length s - i
+μ-loop s p q t n out₀ i₀ at₀ out i at = length s - i
 
 loop-holds : tie.Need-loop-holds Inv-loop μ-loop
-loop-holds c = rewriting-start (c .before .before .before .before .pre)
+loop-holds c = rewriting-start (c .before .before .before .before .before .pre .0)
 
-starts-at-requires : tie.Need-starts-at-requires Inv-loop μ-loop
-starts-at-requires c κs = search needs
+find-requires : tie.Need-find-requires Inv-loop μ-loop
+find-requires c κs = (c .before .loop .inv .inside, c .before .before .before .before .before .before .before .pre .1)
+
+sub-put-bytes : tie.Need-sub-put-bytes Inv-loop μ-loop
+sub-put-bytes c = search needs
+
+part-put-bytes-start : tie.Need-part-put-bytes-start Inv-loop μ-loop
+part-put-bytes-start c = search needs
+
+part-put-bytes-end : tie.Need-part-put-bytes-end Inv-loop μ-loop
+part-put-bytes-end c = search needs
 
 put-bytes-requires : tie.Need-put-bytes-requires Inv-loop μ-loop
-put-bytes-requires c κs =
-    let s = c .before .before in
-    rewriting-fits (s .before .before .loop .inv) (s .starts-at .ensures) (c .before .if1 .taken)
+put-bytes-requires c κs = rewriting-room (c .before .before .before .before .loop .inv) (c .before .before .find .ensures)
+
+sub-at : tie.Need-sub-at Inv-loop μ-loop
+sub-at c = search needs
+
+add-at : tie.Need-add-at Inv-loop μ-loop
+add-at c =
+    let w = c .before .before .before .before .before .before .before in
+    omega (arith, rewriting-reach (w .loop .inv) (c .before .before .before .before .before .find .ensures), w .loop .inv .long, w .before .before .before .before .before .before .good)
+
+same-length : tie.Need-same-length Inv-loop μ-loop
+same-length c =
+    let p = c .before .before .before in
+    let f = p .before .before .before .find .ensures in
+    let m = rewriting-copy (p .before .before .before .before .before .loop .inv) f (p .put-bytes .ensures) (p .put-bytes .kept .0) in
+    m .long
+
+returns : tie.Need-returns Inv-loop μ-loop
+returns c =
+    let p = c .before .before .before in
+    let f = p .before .before .before .find .ensures in
+    let m = rewriting-copy (p .before .before .before .before .before .loop .inv) f (p .put-bytes .ensures) (p .put-bytes .kept .0) in
+    rewriting-end m (omega arith)
+
+put-bytes-requires-2 : tie.Need-put-bytes-requires-2 Inv-loop μ-loop
+put-bytes-requires-2 c κs =
+    let p = c .before .before .before .before in
+    let f = p .before .before .before .find .ensures in
+    let m = rewriting-copy (p .before .before .before .before .before .loop .inv) f (p .put-bytes .ensures) (p .put-bytes .kept .0) in
+    rewriting-fits m (found-here f (c .before .if1 .left))
+
+add-at-2 : tie.Need-add-at-2 Inv-loop μ-loop
+add-at-2 c =
+    let p = c .before .before .before .before .before .before .before in
+    let f = p .before .before .before .find .ensures in
+    let m = rewriting-copy (p .before .before .before .before .before .loop .inv) f (p .put-bytes .ensures) (p .put-bytes .kept .0) in
+    omega (arith, rewriting-fits m (found-here f (c .before .before .before .before .if1 .left)), m .long, p .before .before .before .before .before .before .before .before .before .before .before .good)
 
 add-i : tie.Need-add-i Inv-loop μ-loop
 add-i c =
-    let s = c .before .before .before .before .before in
-    omega (arith, rewriting-inside (s .before .before .loop .inv) (s .starts-at .ensures) (c .before .before .before .before .if1 .taken))
-
-add-n : tie.Need-add-n Inv-loop μ-loop
-add-n c =
-    let s = c .before .before .before .before .before in
-    omega (arith, rewriting-fits (s .before .before .loop .inv) (s .starts-at .ensures) (c .before .before .before .before .if1 .taken))
+    let p = c .before .before .before .before .before .before .before in
+    let f = p .before .before .before .find .ensures in
+    let m = rewriting-copy (p .before .before .before .before .before .loop .inv) f (p .put-bytes .ensures) (p .put-bytes .kept .0) in
+    omega (arith, rewriting-inside m (found-here f (c .before .before .before .before .if1 .left)))
 
 loop-less : tie.Need-loop-less Inv-loop μ-loop
 loop-less c =
-    let s = c .before .before .before .before .before in
-    omega (arith, rewriting-inside (s .before .before .loop .inv) (s .starts-at .ensures) (c .before .before .before .before .if1 .taken), s .before .before .loop .inv .some)
+    let p = c .before .before .before .before .before .before .before in
+    let f = p .before .before .before .find .ensures in
+    let m = rewriting-copy (p .before .before .before .before .before .loop .inv) f (p .put-bytes .ensures) (p .put-bytes .kept .0) in
+    omega (arith, rewriting-inside m (found-here f (c .before .before .before .before .if1 .left)), m .some, f .low)
 
 loop-again : tie.Need-loop-again Inv-loop μ-loop
 loop-again c =
-    let s = c .before .before .before .before .before in
-    rewriting-hit (s .before .before .loop .inv) (s .starts-at .ensures) (c .before .before .before .before .if1 .taken) (c .before .before .put-bytes .ensures) (c .before .before .put-bytes .kept .0)
+    let p = c .before .before .before .before .before .before .before in
+    let f = p .before .before .before .find .ensures in
+    let m = rewriting-copy (p .before .before .before .before .before .loop .inv) f (p .put-bytes .ensures) (p .put-bytes .kept .0) in
+    rewriting-hit m (found-here f (c .before .before .before .before .if1 .left)) (c .before .before .put-bytes2 .ensures) (c .before .before .put-bytes2 .kept .0)
 
-shared-slice-read-out : tie.Need-shared-slice-read-out Inv-loop μ-loop
-shared-slice-read-out c = search needs
+same-length-2 : tie.Need-same-length-2 Inv-loop μ-loop
+same-length-2 c = c .before .loop .inv .long
 
-slice-write-out : tie.Need-slice-write-out Inv-loop μ-loop
-slice-write-out c =
-    let s = c .before .before in
-    rewriting-room (s .before .before .loop .inv) (s .starts-at .ensures) (s .before .loop-test .taken) (c .before .if1 .left)
-
-add-i-2 : tie.Need-add-i-2 Inv-loop μ-loop
-add-i-2 c = search needs
-
-add-n-2 : tie.Need-add-n-2 Inv-loop μ-loop
-add-n-2 c =
-    let s = c .before .before in
-    omega (arith, rewriting-room (s .before .before .loop .inv) (s .starts-at .ensures) (s .before .loop-test .taken) (c .before .if1 .left))
-
-loop-less-2 : tie.Need-loop-less-2 Inv-loop μ-loop
-loop-less-2 c = search needs
-
-loop-again-2 : tie.Need-loop-again-2 Inv-loop μ-loop
-loop-again-2 c =
-    let s = c .before .before in
-    rewriting-miss (s .before .before .loop .inv) (s .starts-at .ensures) (s .before .loop-test .taken) (c .before .if1 .left)
-
-same-length : tie.Need-same-length Inv-loop μ-loop
-same-length c = c .before .loop .inv .long
-
-returns : tie.Need-returns Inv-loop μ-loop
-returns c = rewriting-end (c .before .loop .inv) (c .loop-test .left)
+returns-2 : tie.Need-returns-2 Inv-loop μ-loop
+returns-2 c = rewriting-end (c .before .loop .inv) (c .loop-test .left)
 
 pub rewrite-spec : {M : Type 1} → statement M
 rewrite-spec =
@@ -81,17 +102,19 @@ rewrite-spec =
     Inv-loop
     μ-loop
     loop-holds
-    starts-at-requires
+    find-requires
+    sub-put-bytes
+    part-put-bytes-start
+    part-put-bytes-end
     put-bytes-requires
+    sub-at
+    add-at
+    same-length
+    returns
+    put-bytes-requires-2
+    add-at-2
     add-i
-    add-n
     loop-less
     loop-again
-    shared-slice-read-out
-    slice-write-out
-    add-i-2
-    add-n-2
-    loop-less-2
-    loop-again-2
-    same-length
-    returns)
+    same-length-2
+    returns-2)

@@ -1,0 +1,4 @@
+-- Laws of planes and texts in slices.
+pub mod PlaneLaws
+pub mod FillLaws
+pub mod SpanLaws

@@ -1,0 +1,3 @@
+-- Laws of the upright sheet.
+pub mod UprightLaws
+pub mod PivotLaws

@@ -1,0 +1,2 @@
+pub mod Upright
+pub mod Turned
