@@ -1,2 +1,3 @@
 pub mod Plane
 pub mod Spans
+pub mod Held

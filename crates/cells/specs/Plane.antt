@@ -40,3 +40,8 @@ pub record PlaneFits (d : List ℕ) (n : ℕ) : Type 0 where
 -- the slice d' has what d has before a row's places
 pub record KeptBefore (d d' : List ℕ) (row : ℕ) : Type 0 where
   pub same : (j : ℕ) → j < placeAt row 0 → getD d' j 0 ≡ getD d j 0
+
+-- a plane with the texts of its regions
+pub record TextPlane : Type 0 where
+  pub plane : Plane
+  pub texts : List (List ℕ)

@@ -2,3 +2,4 @@
 pub mod RectsLaws
 pub mod RegionLaws
 pub mod InsideLaws
+pub mod WalkedIsDrawn

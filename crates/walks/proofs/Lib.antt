@@ -3,3 +3,4 @@ pub mod WalkLaws
 pub mod LineLaws
 pub mod FrameLaws
 pub mod Examples
+pub mod SidesLaws

@@ -2,3 +2,4 @@ pub mod Walk
 pub mod Frame
 pub mod Kinds
 pub mod Line
+pub mod Sides

@@ -1,0 +1,8 @@
+-- Laws of the plane step.
+pub mod RegionLaws
+pub mod CellLaws
+pub mod RowLaws
+pub mod LineLaws
+pub mod FramesLaws
+pub mod RowsLaws
+pub mod WalkedIsDrawn

@@ -1,0 +1,100 @@
+-- A row of GRID is added to the plane, and the rows of GRID one after the other.
+use mathlib.Core.Path.{_≡_, refl, sym, ap, _∙_, subst}
+use mathlib.Core.Bool.{Bool, true, false}
+use mathlib.Core.List.{List}
+use Prim.Native.Nat.{ℕ, _+_, _-_, _≤_, _<_}
+use native.Mathlib.Nat.{sub-zero}
+use native.Mathlib.Omega.{arith}
+use lib.Dec.{eqb}
+use lib.ListN.{length}
+use Rattle.lists.specs.Answer.{ok, refused, _>>=_, each, those}
+use Rattle.lists.specs.Choose.{choose}
+use Rattle.lists.specs.Picture.{Picture}
+use Rattle.lists.specs.Run.{run}
+use Rattle.lists.proofs.AnswerLaws.{turn-on, turn-out, turn-end}
+use Rattle.model.specs.Limits.{planeSize}
+use Rattle.model.specs.Refusals.{Reading}
+use Rattle.model.specs.declared.Rect.{Rect}
+use Rattle.model.specs.declared.Refusal.{Refusal}
+use Rattle.cells.specs.Plane.{planeIn}
+use Rattle.outline.specs.declared.Crossing.the-variants.{Nowhere}
+use Rattle.outline.specs.declared.Outline.{Outline}
+use Rattle.regions.specs.Regions.{Finder}
+use Rattle.step.specs.Made.{rowsOf, rowsMade, Fits, RowsFit, lineCell}
+use Rattle.step.specs.PlaneStep.{Rows, isAt, annotationLine, addLine, addFrames, addGridRow, rowsBy, planeBy}
+use Rattle.step.specs.declared.PlaneSofar.{PlaneSofar}
+use Rattle.step.specs.declared.RowsMade.{RowsMade}
+use Rattle.step.specs.declared.RowsMade.the-variants.{Sofar, NoRows}
+
+pub rows-fit : {r : RowsMade} {t : PlaneSofar} {d : List ℕ} → r ≡ Sofar t → RowsFit r d → Fits t d
+rows-fit {r} {t} {d} z f = subst (λ (m : RowsMade). RowsFit m d) z f
+
+-- row y of GRID: the line row of the main crossing answered r1, that of the annotation crossing r2
+module _ (o : Outline) (find : Finder) (regions : List Rect) (p : Picture) (w y : ℕ) (s : PlaneSofar) (d : List ℕ) where
+  abbrev whole : Reading Rows
+  whole = addGridRow o find regions p w y (rowsOf s d)
+
+  abbrev below : Rows → Reading Rows
+  below a = _>>=_ (choose (isAt (o .below) y) (addLine (annotationLine (a .output)) a) (ok a)) (addFrames o find regions p w y)
+
+  module _ (r1 : RowsMade) (d1 : List ℕ) (e1 : rowsMade r1 d1 ≡ choose (eqb y (o .y)) (addLine (lineCell true (s .output) (s .annotation)) (rowsOf s d)) (ok (rowsOf s d))) where
+    first : {m : RowsMade} → r1 ≡ m → whole ≡ _>>=_ (rowsMade m d1) below
+    first z = ap (λ (a : Reading Rows). _>>=_ a below) (sym e1 ∙ ap (λ (m : RowsMade). rowsMade m d1) z)
+
+    pub main-out : (f : Refusal) → r1 ≡ NoRows f → refused f ≡ whole
+    main-out f z = sym (first z)
+
+    module _ (a : PlaneSofar) (z1 : r1 ≡ Sofar a) (u : Bool) (q : u ≡ isAt (o .below) y) (r2 : RowsMade) (d2 : List ℕ)
+        (e2 : rowsMade r2 d2 ≡ choose u (addLine (lineCell false (a .output) (a .annotation)) (rowsOf a d1)) (ok (rowsOf a d1))) where
+      second : {m : RowsMade} → r2 ≡ m → whole ≡ _>>=_ (rowsMade m d2) (addFrames o find regions p w y)
+      second z = first z1 ∙ rw (← q) (ap (λ (b : Reading Rows). _>>=_ b (addFrames o find regions p w y)) (sym e2 ∙ ap (λ (m : RowsMade). rowsMade m d2) z))
+
+      pub below-out : (f : Refusal) → r2 ≡ NoRows f → refused f ≡ whole
+      below-out f z = sym (second z)
+
+      pub lines-added : (b : PlaneSofar) → r2 ≡ Sofar b → addFrames o find regions p w y (rowsOf b d2) ≡ whole
+      lines-added b z = sym (second z)
+
+-- the rows of GRID above row y are added, and the plane is s
+pub record Growing (o : Outline) (find : Finder) (regions : List Rect) (p : Picture) (w h : ℕ) (d out : List ℕ) (y : ℕ) (s : PlaneSofar) : Type 0 where
+  pub along : y ≤ h
+  pub long : length out ≡ length d
+  pub fits : Fits s out
+  pub same : each (addGridRow o find regions p w) (those (λ _. true) y (h - y)) (rowsOf s out) ≡ rowsBy find o regions p w h
+
+pub growing-start : (o : Outline) (find : Finder) (regions : List Rect) (p : Picture) (w h : ℕ) (d : List ℕ) → planeSize ≤ length d
+    → Growing o find regions p w h d d 0 (record { rows = 0; width = 0; output = Nowhere; annotation = Nowhere })
+unfolding planeIn run
+growing-start o find regions p w h d l =
+    record {
+      along = omega arith;
+      long = refl;
+      fits = record { plane = record { room = l; rows = omega arith; cells = λ j k. absurd (omega arith) }; width = omega arith };
+      same = rw (sub-zero h);
+    }
+
+module _ {o : Outline} {find : Finder} {regions : List Rect} {p : Picture} {w h : ℕ} {d out : List ℕ} {y : ℕ} {s : PlaneSofar} (q : Growing o find regions p w h d out y s) where
+  module _ (l : y < h) (r : RowsMade) (b : List ℕ) (e : rowsMade r b ≡ addGridRow o find regions p w y (rowsOf s out)) where
+    pub growing-more : RowsFit r b → length b ≡ length out → (t : PlaneSofar) → r ≡ Sofar t → Growing o find regions p w h d b (y + 1) t
+    growing-more f g t z =
+        record {
+          along = omega arith;
+          long = g ∙ q .long;
+          fits = rows-fit z f;
+          same =
+              sym (turn-on (addGridRow o find regions p w) (λ _. true) y h (rowsOf s out) (rowsOf t b) l (sym e ∙ ap (λ (m : RowsMade). rowsMade m b) z))
+              ∙ q .same;
+        }
+
+    pub growing-out : (f : Refusal) → r ≡ NoRows f → refused f ≡ planeBy find o regions p w h
+    unfolding planeBy
+    growing-out f z =
+        let v : rowsBy find o regions p w h ≡ refused f =
+        sym (q .same) ∙ turn-out (addGridRow o find regions p w) (λ _. true) y h (rowsOf s out) f l (sym e ∙ ap (λ (m : RowsMade). rowsMade m b) z) in
+        rw v
+
+  pub growing-end : h ≤ y → ok (planeIn out (s .rows)) ≡ planeBy find o regions p w h
+  unfolding planeBy
+  growing-end l =
+      let v : rowsBy find o regions p w h ≡ ok (rowsOf s out) = sym (q .same) ∙ turn-end (addGridRow o find regions p w) (λ _. true) y h (rowsOf s out) l in
+      rw v

@@ -1,0 +1,2 @@
+pub mod PlaneStep
+pub mod Made

@@ -1,0 +1,134 @@
+-- The plane of a drawing, over a finder of frames: document 01, "Regions and plane", and `plane` of the Rust's canvas.
+use mathlib.Core.Bool.{Bool, true, false}
+use mathlib.Core.List.{List, [], _∷_, _++_}
+use Prim.Native.Nat.{ℕ, suc}
+use lib.Dec.{eqb, leb, ltb}
+use lib.ListN.{length}
+use Rattle.lists.specs.Answer.{ok, refused, _>>=_, each, those}
+use Rattle.lists.specs.Choose.{choose}
+use Rattle.lists.specs.Picture.{Picture}
+use Rattle.lists.specs.Run.{build}
+use Rattle.model.specs.Geometry.{containsOf}
+use Rattle.model.specs.Limits.{planeRows, planeCells}
+use Rattle.model.specs.Refusals.{Reading}
+use Rattle.model.specs.declared.Cell.{Cell}
+use Rattle.model.specs.declared.Cell.the-variants.{Region, VerticalOutputDoubleLine, VerticalAnnotationDoubleLine, HorizontalOutputDoubleLine, HorizontalAnnotationsDoubleLine, MainDoubleCrossing, HorizontalDoubleCrossing, VerticalDoubleCrossing}
+use Rattle.model.specs.declared.Rect.{Rect}
+use Rattle.model.specs.declared.Refusal.the-variants.{RegionNotFound, OverLimit}
+use Rattle.cells.specs.Plane.{Plane}
+use Rattle.outline.specs.declared.Crossing.{Crossing}
+use Rattle.outline.specs.declared.Crossing.the-variants.{At, Nowhere}
+use Rattle.outline.specs.declared.Outline.{Outline}
+use Rattle.regions.specs.Regions.{Finder, isCorner}
+use Rattle.walks.specs.Frame.{frameOf}
+use Rattle.walks.specs.Kinds.{grid}
+
+abbrev pub isAt : Crossing → ℕ → Bool
+isAt (At i) x = eqb i x
+isAt Nowhere x = false
+
+-- the first region in row order, from the i-th on, that contains a frame; where there is none, 6 with the frame's left and top
+unfoldable pub regionFrom : Rect → ℕ → List Rect → Reading ℕ
+regionFrom f i [] = refused (RegionNotFound (f .left) (f .top))
+regionFrom f i (r ∷ rs) = choose (containsOf r f) (ok i) (regionFrom f (suc i) rs)
+
+abbrev pub regionOf : List Rect → Rect → Reading ℕ
+regionOf rs f = regionFrom f 0 rs
+
+-- a row of the plane so far, and in which columns the last row that had them has the double lines before outputs and annotations
+pub record Row : Type 0 where
+  pub cells : List Cell
+  pub output : Crossing
+  pub annotation : Crossing
+
+-- the plane so far, with the length of its last row
+pub record Rows : Type 0 where
+  pub plane : Plane
+  pub width : ℕ
+  pub output : Crossing
+  pub annotation : Crossing
+
+-- cell i of the line row of the main crossing
+abbrev pub outputLine : Crossing → Crossing → ℕ → Cell
+outputLine output annotation i = choose (isAt output i) MainDoubleCrossing (choose (isAt annotation i) HorizontalDoubleCrossing HorizontalOutputDoubleLine)
+
+-- cell i of the line row of the annotation crossing below it
+abbrev pub annotationLine : Crossing → ℕ → Cell
+annotationLine output i = choose (isAt output i) VerticalDoubleCrossing HorizontalAnnotationsDoubleLine
+
+-- a line row, as long as the row above it: 7 past 64 rows
+abbrev pub addLine : (ℕ → Cell) → Rows → Reading Rows
+addLine line s =
+    choose (leb planeRows (length (s .plane))) (refused OverLimit)
+    (ok (record { plane = s .plane ++ (build (s .width) line ∷ []); width = s .width; output = s .output; annotation = s .annotation }))
+
+-- the columns of a row of GRID, from the left, in which a frame has to start
+abbrev pub cornersIn : Picture → ℕ → ℕ → List ℕ
+cornersIn p w y = those (λ x. isCorner (p x y)) 0 w
+
+-- row n of the plane: 7 past 64 rows, or past 64 cells
+abbrev pub fitting : ℕ → Row → Reading Row
+fitting n s = choose (leb planeRows n) (refused OverLimit) (choose (ltb planeCells (length (s .cells))) (refused OverLimit) (ok s))
+
+-- a row in which no frame starts is no row of the plane
+abbrev pub addRow : Rows → Row → Reading Rows
+addRow s r =
+    choose (eqb (length (r .cells)) 0) (ok s)
+    (ok (record { plane = s .plane ++ (r .cells ∷ []); width = length (r .cells); output = r .output; annotation = r .annotation }))
+
+module _ (o : Outline) where
+  -- the double lines left of a frame in column x
+  abbrev pub outputBefore : ℕ → List Cell
+  outputBefore x = choose (eqb x (o .x)) (VerticalOutputDoubleLine ∷ []) []
+
+  abbrev pub annotationBefore : ℕ → List Cell
+  annotationBefore x = choose (isAt (o .right) x) (VerticalAnnotationDoubleLine ∷ []) []
+
+  -- the row with the cell of a frame in column x, of region i, behind the double lines left of it
+  abbrev pub withCell : ℕ → ℕ → Row → Row
+  withCell x i s =
+      record {
+        cells = s .cells ++ (outputBefore x ++ (annotationBefore x ++ (Region i ∷ [])));
+        output = choose (eqb x (o .x)) (At (length (s .cells))) (s .output);
+        annotation = choose (isAt (o .right) x) (At (length (s .cells ++ outputBefore x))) (s .annotation);
+      }
+
+  -- the frame in column x of row y is found, then its region, then its cells are added
+  abbrev pub addCell : Finder → List Rect → ℕ → ℕ → ℕ → Row → Reading Row
+  addCell find regions n y x s = do
+    f ← find x y
+    i ← regionOf regions f
+    fitting n (withCell x i s)
+
+  -- row n of the plane, of the frames that start in row y
+  abbrev pub rowBy : Finder → List Rect → Picture → ℕ → ℕ → ℕ → Row → Reading Row
+  rowBy find regions p w n y s = each (addCell find regions n y) (cornersIn p w y) s
+
+  abbrev pub addFrames : Finder → List Rect → Picture → ℕ → ℕ → Rows → Reading Rows
+  addFrames find regions p w y s = do
+    r ← rowBy find regions p w (length (s .plane)) y (record { cells = []; output = s .output; annotation = s .annotation })
+    addRow s r
+
+  -- row y of GRID: the line rows that stand there, then the row of its frames
+  abbrev pub addGridRow : Finder → List Rect → Picture → ℕ → ℕ → Rows → Reading Rows
+  addGridRow find regions p w y s = do
+    a ← choose (eqb y (o .y)) (addLine (outputLine (s .output) (s .annotation)) s) (ok s)
+    b ← choose (isAt (o .below) y) (addLine (annotationLine (a .output)) a) (ok a)
+    addFrames find regions p w y b
+
+-- no row yet
+abbrev pub noRows : Rows
+noRows = record { plane = []; width = 0; output = Nowhere; annotation = Nowhere }
+
+abbrev pub rowsBy : Finder → Outline → List Rect → Picture → ℕ → ℕ → Reading Rows
+rowsBy find o regions p w h = each (addGridRow o find regions p w) (those (λ _. true) 0 h) noRows
+
+-- the plane of GRID: over its rows from the top
+unfoldable pub planeBy : Finder → Outline → List Rect → Picture → ℕ → ℕ → Reading Plane
+planeBy find o regions p w h = do
+  s ← rowsBy find o regions p w h
+  ok (s .plane)
+
+-- the plane by walks
+abbrev pub planeOf : Outline → List Rect → Picture → ℕ → ℕ → Reading Plane
+planeOf o regions p w h = planeBy (frameOf grid p w h) o regions p w h
