@@ -62,3 +62,7 @@ pub each-below : {R A S : Type 0} (f f' : A → S → Answer R S) → ((a : A) (
 unfolding each
 each-below f f' h [] s = λ b e. e
 each-below f f' h (a ∷ l) s = then-below (f a s) (f' a s) (each f l) (each f' l) (h a s) (λ s'. each-below f f' h l s')
+
+pub choose-below : {R A : Type 0} (t : Bool) (m n n' : Answer R A) → Below n n' → Below (choose t m n) (choose t m n')
+choose-below true m n n' h = λ a e. e
+choose-below false m n n' h = h

@@ -4,8 +4,9 @@ use mathlib.Core.List.{List, [], _∷_, _++_, map}
 use Prim.Native.Nat.{ℕ, zero, suc, _+_, _≤_, _<_}
 use native.Mathlib.Numerals.{add-one}
 use native.Mathlib.Omega.{arith}
-use lib.ListN.{length, getD}
+use lib.ListN.{length, getD, drop, drop-of-length-le}
 use Rattle.lists.specs.Run.{run, build}
+use Rattle.lists.proofs.Parts.{at-cons}
 
 module _ {A : Type 0} where
   pub length-run : (f : ℕ → A) (k n : ℕ) → length (run f k n) ≡ n
@@ -53,6 +54,15 @@ module _ {A : Type 0} where
 
   pub build-next : (n : ℕ) (f : ℕ → A) → build (n + 1) f ≡ build n f ++ (f n ∷ [])
   build-next n f = let e : 0 + n ≡ n = omega arith in rw (add-one n) (run-next f 0 n ∙ ap (λ (k : ℕ). build n f ++ (f k ∷ [])) e)
+
+  -- a built list from a place on
+  pub drop-build : (n : ℕ) (f : ℕ → A) (k : ℕ) → k < n → drop k (build n f) ≡ f k ∷ drop (k + 1) (build n f)
+  drop-build n f k h =
+      let e = length-run f 0 n in
+      at-cons (build n f) k (f k) (omega arith) ∙ rw (getD-build n f k (f k) h)
+
+  pub drop-build-end : (n : ℕ) (f : ℕ → A) (k : ℕ) → n ≤ k → drop k (build n f) ≡ []
+  drop-build-end n f k h = let e = length-run f 0 n in let g : length (build n f) ≤ k = omega arith in drop-of-length-le (build n f) g
 
   -- a list is built from its elements
   pub build-getD : (l : List A) (d : A) → build (length l) (λ i. getD l i d) ≡ l

@@ -1,6 +1,7 @@
 -- Tests and choices.
 use mathlib.Core.Path.{_≡_, refl}
 use mathlib.Core.Bool.{Bool, true, false, _&&_}
+use mathlib.Core.Option.{none, some}
 use Prim.Native.Nat.{ℕ}
 use native.Mathlib.Omega.{arith}
 use Rattle.lists.specs.Choose.{choose}
@@ -27,3 +28,8 @@ choose-off t a b e = rw e
 pub choose-ap : {A B : Type 0} (f : A → B) (t : Bool) (a b : A) → f (choose t a b) ≡ choose t (f a) (f b)
 choose-ap f true a b = refl
 choose-ap f false a b = refl
+
+-- a choice that is there
+pub choose-some : {A : Type 0} (t : Bool) (a b : A) → choose t (some a) none ≡ some b → (t ≡ true) × (a ≡ b)
+choose-some true a b e = (refl, cc)
+choose-some false a b e = let w : _≡_ {A = ℕ} 0 1 = cc in absurd (omega arith)

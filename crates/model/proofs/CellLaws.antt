@@ -1,13 +1,25 @@
 -- Laws of cells: the number of a cell gives the cell, and a cell turned twice is what it was.
 use mathlib.Core.Path.{_≡_, refl}
+use mathlib.Core.Option.{some}
 use Prim.Native.Nat.{ℕ, zero, suc, _*_, _/_, _%_, _^_, _<_}
 use native.Mathlib.Omega.{arith}
-use Rattle.model.specs.Cells.{cellOfKind, cellNumber, cellOf, Small, turnedCell}
+use Rattle.model.specs.Cells.{cellOfKind, regionOf, cellNumber, cellOf, Small, turnedCell}
 use Rattle.model.specs.declared.Cell.{Cell}
 use Rattle.model.specs.declared.Cell.the-variants.{Region, VerticalOutputDoubleLine, VerticalAnnotationDoubleLine, HorizontalOutputDoubleLine, HorizontalAnnotationsDoubleLine, MainDoubleCrossing, HorizontalDoubleCrossing, VerticalDoubleCrossing}
 
 pub region-small : (c : Cell) (r : ℕ) → Small c → c ≡ Region r → 8 * r < 2 ^ 32
 region-small c r h e = rw e at h
+
+-- a cell that has a region's number is that region
+pub region-is : (c : Cell) (r : ℕ) → regionOf c ≡ some r → c ≡ Region r
+region-is (Region q) r e = cc
+region-is VerticalOutputDoubleLine r e = let z : _≡_ {A = ℕ} 0 1 = cc in absurd (omega arith)
+region-is VerticalAnnotationDoubleLine r e = let z : _≡_ {A = ℕ} 0 1 = cc in absurd (omega arith)
+region-is HorizontalOutputDoubleLine r e = let z : _≡_ {A = ℕ} 0 1 = cc in absurd (omega arith)
+region-is HorizontalAnnotationsDoubleLine r e = let z : _≡_ {A = ℕ} 0 1 = cc in absurd (omega arith)
+region-is MainDoubleCrossing r e = let z : _≡_ {A = ℕ} 0 1 = cc in absurd (omega arith)
+region-is HorizontalDoubleCrossing r e = let z : _≡_ {A = ℕ} 0 1 = cc in absurd (omega arith)
+region-is VerticalDoubleCrossing r e = let z : _≡_ {A = ℕ} 0 1 = cc in absurd (omega arith)
 
 pub cell-number : (c : Cell) → cellOf (cellNumber c) ≡ c
 cell-number (Region r) =

@@ -1,15 +1,13 @@
 -- The regions that walks find are those that are drawn: the theorem `regions-drawn`.
-use mathlib.Core.Bool.{Bool, true, false}
 use mathlib.Core.List.{List, [], _∷_, _++_}
 use mathlib.Core.Logic.{_↔_}
 use mathlib.Core.Path.{_≡_}
 use Prim.Native.Nat.{ℕ, _/_, _%_}
 use lib.Dec.{ltb}
 use lib.ListN.{length}
-use Rattle.lists.specs.Answer.{Answer, ok, refused, each, Below}
-use Rattle.lists.specs.Choose.{choose}
+use Rattle.lists.specs.Answer.{ok, refused, each, Below}
 use Rattle.lists.specs.Picture.{Picture}
-use Rattle.lists.proofs.AnswerLaws.{then-below, each-below}
+use Rattle.lists.proofs.AnswerLaws.{then-below, each-below, choose-below}
 use Rattle.model.specs.Limits.{regionCount}
 use Rattle.model.specs.declared.Rect.{Rect}
 use Rattle.model.specs.declared.Refusal.the-variants.{OverLimit}
@@ -19,10 +17,6 @@ use Rattle.walks.specs.Sides.{bySides}
 use Rattle.walks.proofs.FrameLaws.{thin-sound}
 use Rattle.walks.proofs.SidesLaws.{walks-sides, sides-walks}
 use Rattle.regions.specs.Regions.{Finder, cornersOf, addRegion, regionsBy}
-
-choose-below : {R A : Type 0} (t : Bool) (m n n' : Answer R A) → Below n n' → Below (choose t m n) (choose t m n')
-choose-below true m n n' h = λ a e. e
-choose-below false m n n' h = h
 
 -- a finder that answers whatever another answers finds its regions
 pub regions-below : (f f' : Finder) → ((x y : ℕ) → Below (f x y) (f' x y)) → (p : Picture) (w h : ℕ) → Below (regionsBy f p w h) (regionsBy f' p w h)

@@ -4,7 +4,7 @@ use mathlib.Core.Option.{Option, some}
 use mathlib.Core.Path.{_≡_, refl}
 use Prim.Native.Nat.{ℕ}
 use Rattle.model.specs.RuleNumbers.{numberOf, digits}
-use Rattle.replay.specs.Decimal.{widthBy, decimal, spaced, listed}
+use Rattle.print.specs.Decimal.{widthBy, decimal, spaced, listed}
 use Rattle.replay.specs.Texts.{before, bytesIn, textOf}
 
 -- 1 42

@@ -1,9 +1,9 @@
 -- Laws of texts and answers as the judge has them.
-pub mod DecimalLaws
-pub mod WrittenLaws
 pub mod Finding
 pub mod Reading
 pub mod Shifting
+pub mod DrawingLaws
+pub mod KindLaws
 pub mod Replaying
 pub mod Examples
 pub mod RoundTrip

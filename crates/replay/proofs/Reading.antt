@@ -15,7 +15,8 @@ use Rattle.lists.proofs.Tests.{by-flag}
 use Rattle.model.specs.RuleNumbers.{numberOf, numberFound}
 use Rattle.model.specs.declared.RuleNumber.{RuleNumber}
 use Rattle.model.specs.declared.RuleNumber.the-variants.{Number, NoNumber}
-use Rattle.replay.specs.Texts.{blank, before, FirstAt, atMost, flagged, onNumber, onto, nothingIn, bytesIn, textOf, bytesBy}
+use Rattle.print.specs.Lines.{blank}
+use Rattle.replay.specs.Texts.{before, FirstAt, atMost, flagged, onNumber, onto, nothingIn, bytesIn, textOf, bytesBy}
 
 -- a word's number
 module _ (w : List ℕ) (f : RuleNumber) (e : numberFound f ≡ numberOf w) (most : ℕ) where

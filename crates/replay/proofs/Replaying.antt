@@ -4,23 +4,28 @@ use mathlib.Core.Bool.{Bool, true, false}
 use mathlib.Core.List.{List, [], _∷_, _++_}
 use mathlib.Core.Logic.{inl, inr}
 use mathlib.Core.Option.{Option, none, some}
-use Prim.Native.Nat.{ℕ, _+_, _-_, _≤_, _<_}
+use Prim.Native.Nat.{ℕ, suc, _+_, _-_, _≤_, _<_}
 use native.Mathlib.Omega.{arith}
 use lib.ListN.{length, getD, take, drop, length-take, length-drop, drop-of-length-le}
-use lib.Seq.{take-add}
+use lib.Seq.{take-add, length-take-le}
 use Rattle.lists.proofs.Parts.{at-cons, part-add, part-end}
 use Rattle.utils.specs.Split.{answered, Places}
 use Rattle.utils.specs.declared.Split.{Split}
 use Rattle.utils.specs.declared.Split.the-variants.{Own, Rewritten, NotSplit}
-use Rattle.replay.specs.Decimal.{Written}
-use Rattle.replay.specs.Texts.{lineFeed, before, FirstAt, textOf, textIn, TextWithin}
+use Rattle.print.specs.Decimal.{Written}
+use Rattle.print.specs.Lines.{blank, lineFeed, valuesLine}
+use Rattle.replay.specs.Kinds.{kindOf, wordOf, restOf}
+use Rattle.replay.specs.Texts.{before, FirstAt, textOf, textIn, TextWithin}
 use Rattle.model.specs.Limits.{textBytes}
-use Rattle.replay.specs.Answers.{lineBytes, valuesLine, printed, answerOf, AnsweredIn, Replayed, nothing, line, Stopped}
+use Rattle.replay.specs.Answers.{lineBytes, printed, splitLine, onRead, answerBy, answerOf, AnsweredIn, Replayed, nothing, line, Stopped}
 use Rattle.replay.specs.declared.LineText.{LineText}
 use Rattle.replay.specs.declared.LineText.the-variants.{Text, Malformed}
 use Rattle.replay.specs.declared.Answered.{Answered}
 use Rattle.replay.specs.declared.Answered.the-variants.{Upto, NoText}
-use Rattle.replay.proofs.WrittenLaws.{take-written, written-as}
+use Rattle.replay.specs.declared.Kind.{Kind}
+use Rattle.replay.specs.declared.Kind.the-variants.{Split as SplitKind, Drawing, Unknown}
+use Rattle.model.specs.RuleNumbers.{numberOf}
+use Rattle.print.proofs.WrittenLaws.{take-written, written-as}
 
 -- the places of a rewritten text
 pub places : (s : Split) (t d : List ℕ) {n from to : ℕ} → Places s t d → s ≡ Rewritten n from to → (n ≤ length d) × (from ≤ to) × (to ≤ length t)
@@ -44,19 +49,53 @@ parts-most s t d {n} {from} {to} e = (part-most (n - 0) 0 d, part-most (to - fro
 pub within : (r : LineText) (d : List ℕ) {n : ℕ} → TextWithin r d → r ≡ Text n → n ≤ length d
 within r d {n} w e = subst (λ (r : LineText). TextWithin r d) e w
 
--- a line that holds a text, and one that holds none
-module _ (line t : List ℕ) (f : LineText) (most : ℕ) (e : textOf most line ≡ textIn f t) (h : most ≡ textBytes) where
+-- a text that is answered, and one that is absent
+module _ (line t : List ℕ) (f : LineText) (most : ℕ) (e : textOf most line ≡ textIn f t) (h : most ≡ textBytes) (g : List ℕ → List ℕ) where
   read : textOf textBytes line ≡ textIn f t
   read = ap (λ (n : ℕ). textOf n line) (sym h) ∙ e
 
-  pub answered-text : {out o : List ℕ} {at r n : ℕ} (room : ℕ) → f ≡ Text n → room ≡ textBytes → Written out o at (answerOf room (take (n - 0) (drop 0 t))) lineBytes r
-      → AnsweredIn (Upto r) textBytes line out o at lineBytes
-  answered-text {out} {o} {at} {r} {n} room g k w =
+  pub answered-text : {out o : List ℕ} {at r n : ℕ} → f ≡ Text n → Written out o at (g (take (n - 0) (drop 0 t))) lineBytes r
+      → AnsweredIn (Upto r) (onRead (textOf textBytes line) g) out o at
+  answered-text {out} {o} {at} {r} {n} k w =
       let z : n - 0 ≡ n = omega arith in
-      (take n t, (read ∙ ap (λ (f : LineText). textIn f t) g, written-as w (ap (λ (m : ℕ). answerOf m (take (n - 0) t)) k ∙ ap (λ (m : ℕ). answerOf textBytes (take m t)) z)))
+      (g (take n t), (ap (λ (x : Option (List ℕ)). onRead x g) (read ∙ ap (λ (f : LineText). textIn f t) k), written-as w (ap (λ (m : ℕ). g (take m t)) z)))
 
-  pub answered-none : f ≡ Malformed → textOf textBytes line ≡ none
-  answered-none g = read ∙ ap (λ (f : LineText). textIn f t) g
+  pub answered-none : f ≡ Malformed → onRead (textOf textBytes line) g ≡ none
+  answered-none k = ap (λ (x : Option (List ℕ)). onRead x g) (read ∙ ap (λ (f : LineText). textIn f t) k)
+
+-- the line of a split, with a scratch slice of a known length
+pub split-line : {out o : List ℕ} {at r : ℕ} (text : List ℕ) (room : ℕ) → room ≡ textBytes → Written out o at (splitLine room text) lineBytes r → Written out o at (splitLine textBytes text) lineBytes r
+split-line text room k w = written-as w (ap (λ (m : ℕ). splitLine m text) k)
+
+-- a line's answer is that of its kind to what stands behind the kind
+module _ {line : List ℕ} {end : ℕ} (f : FirstAt line 0 blank end) where
+  word-long : length (before blank line) ≡ end
+  word-long =
+      let z : end - 0 ≡ end = omega arith in
+      ap length (sym (f .same)) ∙ length-take-le (end - 0) line (omega (arith, f .high)) ∙ z
+
+  pub answer-is : (k K : Kind) → k ≡ kindOf (take (end - 0) (drop 0 line)) → k ≡ K
+      → answerBy K textBytes (take (length line - (end + 1)) (drop (end + 1) line)) ≡ answerOf textBytes line
+  unfolding answerOf
+  answer-is k K e g =
+      let z : suc (length (before blank line)) ≡ end + 1 = omega (arith, word-long) in
+      let w : kindOf (wordOf line) ≡ K = ap kindOf (sym (f .same)) ∙ sym e ∙ g in
+      ap (answerBy K textBytes) (part-end line (end + 1)) ∙ sym (rw (w, z))
+
+  nothing-behind : (k : Kind) → answerBy k textBytes [] ≡ none
+  unfolding textOf before numberOf
+  nothing-behind SplitKind = refl
+  nothing-behind Drawing = refl
+  nothing-behind Unknown = refl
+
+  pub no-rest : end ≡ length line → answerOf textBytes line ≡ none
+  unfolding answerOf
+  no-rest e =
+      let z : length line ≤ suc (length (before blank line)) = omega (arith, word-long) in
+      ap (answerBy (kindOf (wordOf line)) textBytes) (drop-of-length-le line z) ∙ nothing-behind (kindOf (wordOf line))
+
+pub answered-as : (r : Answered) {x y : Option (List ℕ)} (d o : List ℕ) (at : ℕ) → AnsweredIn r x d o at → x ≡ y → AnsweredIn r y d o at
+answered-as r {x} {y} d o at a e = subst (λ (x : Option (List ℕ)). AnsweredIn r x d o at) e a
 
 pub text-fits : (f : LineText) (t : List ℕ) {n : ℕ} → f ≡ Text n → length t ≡ textBytes → length (take (n - 0) (drop 0 t)) ≤ textBytes
 text-fits f t {n} e h = omega (arith, part-most (n - 0) 0 t)
@@ -86,13 +125,13 @@ whole {s} {at} {end} f l =
     ∙ ap (λ (x : List ℕ). take at s ++ x) (part-add s at end 1 (f .low) ∙ ap (λ (x : List ℕ). take (end - at) (drop at s) ++ x) (rw (at-cons s end 0 l, f .ends l)))
 
 module _ {input text scratch out₀ out : List ℕ} {at n : ℕ} (q : Answering input text scratch out₀ out at n) (r : Answered) (o l : List ℕ)
-    (a : AnsweredIn r textBytes l out o n lineBytes) where
+    (a : AnsweredIn r (answerOf textBytes l) out o n) where
   pub answering-more : {end m : ℕ} {t s : List ℕ} → FirstAt input at lineFeed end → end < length input → l ≡ take (end - at) (drop at input) → r ≡ Upto m
       → length t ≡ length text → length s ≡ length scratch → length o ≡ length out → n + lineBytes ≤ length out → Answering input t s out₀ o (end + 1) m
   answering-more {end} {m} {t} {s} f h g e lt ls lo room =
-      let b : AnsweredIn (Upto m) textBytes l out o n lineBytes = subst (λ (r : Answered). AnsweredIn r textBytes l out o n lineBytes) e a in
-      let w : Written out o n (answerOf textBytes (b .0)) lineBytes m = b .1 .1 in
-      let x : take m o ≡ take n out ++ answerOf textBytes (b .0) = take-written w (q .fits) in
+      let b : AnsweredIn (Upto m) (answerOf textBytes l) out o n = subst (λ (r : Answered). AnsweredIn r (answerOf textBytes l) out o n) e a in
+      let w : Written out o n (b .0) lineBytes m = b .1 .1 in
+      let x : take m o ≡ take n out ++ b .0 = take-written w (q .fits) in
       let y : take (end + 1) input ≡ take at input ++ (l ++ (lineFeed ∷ [])) = whole f h ∙ ap (λ (z : List ℕ). take at input ++ (z ++ (lineFeed ∷ []))) (sym g) in
       record {
         inside = omega arith;
@@ -105,8 +144,8 @@ module _ {input text scratch out₀ out : List ℕ} {at n : ℕ} (q : Answering 
 
   pub answering-stop : {end : ℕ} → FirstAt input at lineFeed end → l ≡ take (end - at) (drop at input) → r ≡ NoText → Ended false input at o n
   answering-stop {end} f g e =
-      let b : AnsweredIn NoText textBytes l out o n lineBytes = subst (λ (r : Answered). AnsweredIn r textBytes l out o n lineBytes) e a in
-      let t : textOf textBytes (before lineFeed (drop at input)) ≡ none = ap (textOf textBytes) (sym (f .same) ∙ sym g) ∙ b .0 in
+      let b : AnsweredIn NoText (answerOf textBytes l) out o n = subst (λ (r : Answered). AnsweredIn r (answerOf textBytes l) out o n) e a in
+      let t : answerOf textBytes (before lineFeed (drop at input)) ≡ none = ap (answerOf textBytes) (sym (f .same) ∙ sym g) ∙ b .0 in
       rw (b .1) (q .done, ((q .inside, q .fits), t))
 
 -- the answers end where no whole line is left, or where there is little room

@@ -14,9 +14,10 @@ use Rattle.io.specs.Digits.{glyph, digits}
 use Rattle.lists.proofs.Tests.{by-flag, both}
 use Rattle.model.specs.RuleNumbers.{isDigit, numberOf}
 use Rattle.model.specs.RuleNumbers.{digits as valueOf}
-use Rattle.replay.specs.Decimal.{widthBy, width, decimal, spaced, listed}
-use Rattle.replay.specs.Texts.{blank, before, bytesIn, textOf}
-use Rattle.replay.proofs.DecimalLaws.{length-decimal}
+use Rattle.print.specs.Decimal.{widthBy, width, decimal, spaced, listed}
+use Rattle.print.specs.Lines.{blank}
+use Rattle.replay.specs.Texts.{before, bytesIn, textOf}
+use Rattle.print.proofs.DecimalLaws.{length-decimal}
 
 -- what has a value begins with a digit
 first : (a n c : ℕ) (s : List ℕ) → valueOf a (c ∷ s) ≡ some n → isDigit c ≡ true

@@ -1,4 +1,4 @@
--- The lines that the judge prints for texts.
+-- The answers to lines.
 use mathlib.Core.Bool.{Bool, true, false}
 use mathlib.Core.List.{List, [], _∷_, _++_}
 use mathlib.Core.Logic.{_⊎_}
@@ -8,40 +8,24 @@ use Prim.Native.Nat.{ℕ, _+_, _<_}
 use lib.ListN.{length, drop}
 use Rattle.lists.specs.Answer.{ok, refused}
 use Rattle.model.specs.Refusals.{Reading, numbers}
-use Rattle.model.specs.declared.Numbers.{Numbers}
 use Rattle.utils.specs.Split.{Values, splitOf}
-use Rattle.replay.specs.Decimal.{decimal, listed, Written}
-use Rattle.replay.specs.Texts.{before, textOf, lineFeed}
+use Rattle.print.specs.Decimal.{Written}
+use Rattle.print.specs.Lines.{lineFeed, valuesLine, refusedLine}
+use Rattle.replay.specs.DrawingLines.{drawingLines}
+use Rattle.replay.specs.Kinds.{kindOf, wordOf, restOf}
+use Rattle.replay.specs.Texts.{before, textOf}
 use Rattle.replay.specs.declared.Answered.{Answered}
 use Rattle.replay.specs.declared.Answered.the-variants.{Upto, NoText}
+use Rattle.replay.specs.declared.Kind.{Kind}
+use Rattle.replay.specs.declared.Kind.the-variants.{Split, Drawing, Unknown}
 
--- room for every line that is printed: each byte of a text takes at most four
+-- room for every answer: each byte of a split's texts takes at most four, and a drawing takes less
 abbrev pub lineBytes : ℕ
 lineBytes = 500000
 
 -- "own" and a line feed
 abbrev pub ownLine : List ℕ
 ownLine = 0x6F ∷ 0x77 ∷ 0x6E ∷ lineFeed ∷ []
-
--- "values "
-abbrev pub valuesWord : List ℕ
-valuesWord = 0x76 ∷ 0x61 ∷ 0x6C ∷ 0x75 ∷ 0x65 ∷ 0x73 ∷ 0x20 ∷ []
-
--- " default "
-abbrev pub defaultWord : List ℕ
-defaultWord = 0x20 ∷ 0x64 ∷ 0x65 ∷ 0x66 ∷ 0x61 ∷ 0x75 ∷ 0x6C ∷ 0x74 ∷ 0x20 ∷ []
-
--- "refused "
-abbrev pub refusedWord : List ℕ
-refusedWord = 0x72 ∷ 0x65 ∷ 0x66 ∷ 0x75 ∷ 0x73 ∷ 0x65 ∷ 0x64 ∷ 0x20 ∷ []
-
--- values N b0 .. default M c0 ..
-unfoldable pub valuesLine : List ℕ → List ℕ → List ℕ
-valuesLine allowed bare = valuesWord ++ (listed allowed ++ (defaultWord ++ (listed bare ++ (lineFeed ∷ []))))
-
--- refused N A B
-unfoldable pub refusedLine : Numbers → List ℕ
-refusedLine x = refusedWord ++ (decimal (x .n) ++ ((0x20 ∷ []) ++ (decimal (x .a) ++ ((0x20 ∷ []) ++ (decimal (x .b) ++ (lineFeed ∷ []))))))
 
 abbrev pub printedBy : List ℕ → Option (List ℕ) → List ℕ
 printedBy allowed none = ownLine
@@ -53,21 +37,42 @@ printed (ok v) = printedBy (v .allowed) (v .default)
 printed (refused r) = refusedLine (numbers r)
 
 -- the line that is printed for a text, with a scratch slice of so many bytes
-unfoldable pub answerOf : ℕ → List ℕ → List ℕ
-answerOf room text = printed (splitOf text room)
+unfoldable pub splitLine : ℕ → List ℕ → List ℕ
+splitLine room text = printed (splitOf text room)
 
--- the printed lines for whole lines of texts, one after the other
+-- the answer to a text that may be absent
+abbrev pub onRead : Option (List ℕ) → (List ℕ → List ℕ) → Option (List ℕ)
+onRead none f = none
+onRead (some t) f = some (f t)
+
+-- the answers to what stands behind a kind, with a scratch slice of so many bytes
+abbrev pub splitAnswer : ℕ → List ℕ → Option (List ℕ)
+splitAnswer room s = onRead (textOf room s) (splitLine room)
+
+abbrev pub drawingAnswer : ℕ → List ℕ → Option (List ℕ)
+drawingAnswer room s = onRead (textOf room s) drawingLines
+
+abbrev pub answerBy : Kind → ℕ → List ℕ → Option (List ℕ)
+answerBy Split room s = splitAnswer room s
+answerBy Drawing room s = drawingAnswer room s
+answerBy Unknown room s = none
+
+-- the answer to a line without its line feed, if it is none that is malformed
+unfoldable pub answerOf : ℕ → List ℕ → Option (List ℕ)
+answerOf room line = answerBy (kindOf (wordOf line)) room (restOf line)
+
+-- the answers to whole lines, one after the other
 pub data Replayed (room : ℕ) : List ℕ → List ℕ → Type 0 where
   nothing : Replayed room [] []
-  line : {lines answers : List ℕ} (l text : List ℕ) → Replayed room lines answers → textOf room l ≡ some text
-      → Replayed room (lines ++ (l ++ (lineFeed ∷ []))) (answers ++ answerOf room text)
+  line : {lines answers : List ℕ} (l a : List ℕ) → Replayed room lines answers → answerOf room l ≡ some a
+      → Replayed room (lines ++ (l ++ (lineFeed ∷ []))) (answers ++ a)
 
--- what became of the slice d for the line l: its answer stands from `at` on; or l is no text, and what stood before `at` still does
-abbrev pub AnsweredIn : Answered → ℕ → List ℕ → List ℕ → List ℕ → ℕ → ℕ → Type 0
-AnsweredIn (Upto r) room l d o at most = (text : List ℕ) × ((textOf room l ≡ some text) × Written d o at (answerOf room text) most r)
-AnsweredIn NoText room l d o at most = (textOf room l ≡ none) × (o ≡ d)
+-- what became of the slice d where x answers: the answer stands from `at` on; or there is none, and d is as it was
+abbrev pub AnsweredIn : Answered → Option (List ℕ) → List ℕ → List ℕ → ℕ → Type 0
+AnsweredIn (Upto r) x d o at = (a : List ℕ) × ((x ≡ some a) × Written d o at a lineBytes r)
+AnsweredIn NoText x d o at = (x ≡ none) × (o ≡ d)
 
--- why answering stopped at a place of the input, with n bytes in the slice o: the line there holds no text; or no whole line is left, or little room
+-- why answering stopped at a place of the input, with n bytes in the slice o: the line there has no answer; or no whole line is left, or little room
 abbrev pub Stopped : Bool → ℕ → List ℕ → ℕ → List ℕ → ℕ → Type 0
-Stopped false room s at o n = textOf room (before lineFeed (drop at s)) ≡ none
+Stopped false room s at o n = answerOf room (before lineFeed (drop at s)) ≡ none
 Stopped true room s at o n = (before lineFeed (drop at s) ≡ drop at s) ⊎ (length o < n + lineBytes)

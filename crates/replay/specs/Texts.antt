@@ -1,4 +1,4 @@
--- Texts as the judge reads them: a text a line, its count of bytes and the bytes, one blank between two numbers.
+-- Texts as the judge reads them behind a line's kind: the count of bytes and the bytes, one blank between two numbers.
 use mathlib.Core.Bool.{Bool, true, false}
 use mathlib.Core.List.{List, [], _∷_, _++_}
 use mathlib.Core.Option.{Option, none, some}
@@ -8,14 +8,9 @@ use lib.Dec.{eqb, leb, ltb}
 use lib.ListN.{length, getD, take, drop}
 use Rattle.lists.specs.Choose.{choose}
 use Rattle.model.specs.RuleNumbers.{numberOf}
+use Rattle.print.specs.Lines.{blank}
 use Rattle.replay.specs.declared.LineText.{LineText}
 use Rattle.replay.specs.declared.LineText.the-variants.{Text, Malformed}
-
-abbrev pub blank : ℕ
-blank = 0x20
-
-abbrev pub lineFeed : ℕ
-lineFeed = 0x0A
 
 -- s up to the first m
 unfoldable pub before : ℕ → List ℕ → List ℕ
@@ -61,7 +56,7 @@ bytesIn (suc n) (c ∷ s) =
     onNumber (atMost 255 (numberOf (before blank s)))
     (λ b. onto (b ∷ []) (bytesIn n (drop (length (before blank s)) s)))
 
--- the text of a line without its line feed: at most `most` bytes
+-- the text that a line holds behind its kind: at most `most` bytes
 unfoldable pub textOf : ℕ → List ℕ → Option (List ℕ)
 textOf most s =
     onNumber (atMost most (numberOf (before blank s)))

@@ -1,22 +1,27 @@
-// Texts on standard input, a text a line, its count of bytes and the bytes. Prints what the value split answers
-// to each, as the judge of the Rust prints it.
-use model::Refusal;
+// Lines on standard input, each a kind, a count of bytes and the bytes. Prints what the port answers to each, as
+// the judge of the Rust prints it: `split` is a text for the value split, `drawing` a sheet.
+use canvas::Drawing;
+use canvas::RegionsRead;
 use model::RuleNumber;
+use model::limits::CANVAS_SIZE;
 use model::limits::TEXT_BYTES;
 use utils::Split;
 ghost use mathlib.Core.Path.{_≡_};
-ghost use mathlib.Core.List.{[], _∷_};
-ghost use Prim.Native.Nat.{_+_, _-_, _*_, _≤_, _<_};
+ghost use Prim.Native.Nat.{_+_, _-_, _≤_};
 ghost use lib.ListN.{length, take, drop};
-ghost use Rattle.model.specs.RuleNumbers.{numberOf};
-ghost use Rattle.model.specs.Refusals.{numbers};
-ghost use Rattle.utils.specs.Split.{answered, Places};
-ghost use Rattle.replay.specs.Decimal.{decimal, listed, Written};
-ghost use Rattle.replay.specs.Texts.{FirstAt, flagged, atMost, bytesIn, bytesBy, textOf, textIn, TextWithin};
+ghost use Rattle.lists.specs.Picture.{canvas};
 ghost use Rattle.model.specs.Limits.{textBytes};
-ghost use Rattle.replay.specs.Answers.{lineBytes, valuesLine, refusedLine, printed, answerOf, AnsweredIn, Replayed, Stopped};
+ghost use Rattle.model.specs.RuleNumbers.{numberOf};
+ghost use Rattle.utils.specs.Split.{answered, Places};
+ghost use Rattle.canvas.specs.RegionTexts.{regionTextsOf};
+ghost use Rattle.print.specs.Decimal.{Written};
+ghost use Rattle.print.specs.Drawings.{Layer};
+ghost use Rattle.replay.specs.Texts.{FirstAt, flagged, atMost, bytesIn, bytesBy, textOf, textIn, TextWithin};
+ghost use Rattle.replay.specs.Kinds.{kindOf};
+ghost use Rattle.replay.specs.DrawingLines.{regionsLines, regionsBytes, drawingLines};
+ghost use Rattle.replay.specs.Answers.{lineBytes, printed, splitLine, splitAnswer, drawingAnswer, answerOf, AnsweredIn, Replayed, Stopped};
 
-// Room for every line that is printed.
+// Room for every answer.
 const LINE_BYTES: usize = 500000;
 
 // The index of the first m from `at` on, or the end.
@@ -87,13 +92,13 @@ fn read_bytes(line: &[u8], from: usize, count: usize, text: &mut [u8]) -> bool
     at == line.len()
 }
 
-// What a line holds: so many bytes of a text, or no text.
+// What stands behind a kind: so many bytes of a text, or no text.
 pub enum LineText {
     Text(usize),
     Malformed,
 }
 
-// The text of a line, into text.
+// The text behind a kind, into text.
 fn read_text(line: &[u8], text: &mut [u8]) -> LineText
     ensures { λ r. ⌜ textOf (length (now (text .entry))) (now (line .entry)) ≡ textIn r (now (text .exit)) ⌝ }
     ensures { λ r. ⌜ TextWithin r (now (text .exit)) ⌝ }
@@ -110,101 +115,127 @@ fn read_text(line: &[u8], text: &mut [u8]) -> LineText
     LineText::Malformed
 }
 
-// A number in decimal, from index `at` on.
-fn put_number(out: &mut [u8], at: usize, n: u64) -> usize
-    requires { ⌜ at + 20 ≤ length (now out) ⌝ }
-    ensures { λ r. ⌜ Written (now (out .entry)) (now (out .exit)) at (decimal n) 20 r ⌝ }
-{
-    let mut digits = [0u8; 20];
-    let k = io::decimal(n, &mut digits);
-    lists::put_bytes(out, at, &digits[..k]);
-    at + k
-}
-
-// A blank and a byte in decimal.
-fn put_byte(out: &mut [u8], at: usize, b: u8) -> usize
-    requires { ⌜ at + 21 ≤ length (now out) ⌝ }
-    ensures { λ r. ⌜ Written (now (out .entry)) (now (out .exit)) at (0x20 ∷ decimal b) 4 r ⌝ }
-{
-    out[at] = 0x20;
-    put_number(out, at + 1, b as u64)
-}
-
-// A text as its count of bytes and the bytes.
-fn put_listed(out: &mut [u8], at: usize, text: &[u8]) -> usize
-    requires { ⌜ at + 50 + 4 * length (now text) ≤ length (now out) ⌝ }
-    ensures { λ r. ⌜ Written (now (out .entry)) (now (out .exit)) at (listed (now (text .entry))) (20 + 4 * length (now (text .entry))) r ⌝ }
-{
-    let mut n = put_number(out, at, text.len() as u64);
-    let mut i = 0;
-    while i < text.len() {
-        n = put_byte(out, n, text[i]);
-        i += 1;
-    }
-    n
-}
-
-// Bytes, and the index behind them.
-fn put_word(out: &mut [u8], at: usize, word: &[u8]) -> usize
-    requires { ⌜ at + length (now word) ≤ length (now out) ⌝ }
-    ensures { λ r. ⌜ Written (now (out .entry)) (now (out .exit)) at (now (word .entry)) (length (now (word .entry))) r ⌝ }
-{
-    lists::put_bytes(out, at, word);
-    at + word.len()
-}
-
-// The allowed values and the default.
-fn put_values(out: &mut [u8], at: usize, allowed: &[u8], bare: &[u8]) -> usize
-    requires { ⌜ at + 150 + 4 * length (now allowed) + 4 * length (now bare) ≤ length (now out) ⌝ }
-    ensures { λ r. ⌜ Written (now (out .entry)) (now (out .exit)) at (valuesLine (now (allowed .entry)) (now (bare .entry))) (57 + 4 * length (now (allowed .entry)) + 4 * length (now (bare .entry))) r ⌝ }
-{
-    let a = put_word(out, at, b"values ");
-    let b = put_listed(out, a, allowed);
-    let c = put_word(out, b, b" default ");
-    let d = put_listed(out, c, bare);
-    put_word(out, d, b"\n")
-}
-
-// A refusal: N, A and B.
-fn put_refusal(out: &mut [u8], at: usize, r: Refusal) -> usize
-    requires { ⌜ at + 100 ≤ length (now out) ⌝ }
-    ensures { λ e. ⌜ Written (now (out .entry)) (now (out .exit)) at (refusedLine (numbers r)) 100 e ⌝ }
-{
-    let x = model::refusal_numbers(r);
-    let a = put_word(out, at, b"refused ");
-    let b = put_number(out, a, x.n);
-    let c = put_word(out, b, b" ");
-    let d = put_number(out, c, x.a);
-    let e = put_word(out, d, b" ");
-    let f = put_number(out, e, x.b);
-    put_word(out, f, b"\n")
-}
-
 // What the split answered.
 fn put_split(out: &mut [u8], at: usize, text: &[u8], scratch: &[u8], s: Split) -> usize
     requires { ⌜ (at + lineBytes ≤ length (now out)) × (length (now text) ≤ textBytes) × (length (now scratch) ≤ textBytes) × Places s (now text) (now scratch) ⌝ }
     ensures { λ r. ⌜ Written (now (out .entry)) (now (out .exit)) at (printed (answered s (now (text .entry)) (now (scratch .entry)))) lineBytes r ⌝ }
 {
     match s {
-        Split::Own => put_word(out, at, b"own\n"),
-        Split::Rewritten(n, from, to) => put_values(out, at, &scratch[0..n], &text[from..to]),
-        Split::NotSplit(r) => put_refusal(out, at, r),
+        Split::Own => print::put_word(out, at, b"own\n"),
+        Split::Rewritten(n, from, to) => print::put_values(
+            out,
+            at,
+            &scratch[0..n],
+            &text[from..to],
+        ),
+        Split::NotSplit(r) => print::put_refusal(out, at, r),
     }
 }
 
 // The line that answers a text.
-fn put_answer(out: &mut [u8], at: usize, text: &[u8], scratch: &mut [u8]) -> usize
+fn put_split_line(out: &mut [u8], at: usize, text: &[u8], scratch: &mut [u8]) -> usize
     requires { ⌜ (at + lineBytes ≤ length (now out)) × (length (now text) ≤ textBytes) × (length (now scratch) ≤ textBytes) ⌝ }
-    ensures { λ r. ⌜ Written (now (out .entry)) (now (out .exit)) at (answerOf (length (now (scratch .entry))) (now (text .entry))) lineBytes r ⌝ }
+    ensures { λ r. ⌜ Written (now (out .entry)) (now (out .exit)) at (splitLine (length (now (scratch .entry))) (now (text .entry))) lineBytes r ⌝ }
 {
     let s = utils::split_values(text, scratch);
     put_split(out, at, text, scratch, s)
 }
 
-// What became of a line: its answer ends at an index, or it holds no text.
+// The regions of THIN with their texts on TEXT, and the name.
+fn put_regions(
+    out: &mut [u8],
+    at: usize,
+    text: &[u32],
+    thins: &[u32],
+    w: usize,
+    h: usize,
+    named: bool,
+) -> usize
+    requires { ⌜ (at + regionsBytes ≤ length (now out)) × Layer w h (now text) × Layer w h (now thins) ⌝ }
+    ensures { λ r. ⌜ Written (now (out .entry)) (now (out .exit)) at (regionsLines named (regionTextsOf (canvas w h (now (text .entry))) (canvas w h (now (thins .entry))) w h)) regionsBytes r ⌝ }
+{
+    let mut rects = [0u32; 4096];
+    let mut bytes = [0u8; 61444];
+    let mut spans = [0u32; 2048];
+    match canvas::read_regions(text, thins, w, h, &mut rects, &mut bytes, &mut spans) {
+        RegionsRead::Read(n, _) => {
+            let a = print::put_regions(out, at, &rects, &bytes, &spans, n);
+            print::put_name(out, a, &bytes, &spans, n, named)
+        }
+        RegionsRead::NotRead(r) => print::put_refusal(out, at, r),
+    }
+}
+
+// The layers and the regions of a sheet.
+fn put_drawing(out: &mut [u8], at: usize, s: &[u8]) -> usize
+    requires { ⌜ at + lineBytes ≤ length (now out) ⌝ }
+    ensures { λ r. ⌜ Written (now (out .entry)) (now (out .exit)) at (drawingLines (now (s .entry))) lineBytes r ⌝ }
+{
+    let mut text = [0u32; CANVAS_SIZE];
+    let mut thins = [0u32; CANVAS_SIZE];
+    let mut bodies = [0u32; CANVAS_SIZE];
+    let mut grid = [0u32; CANVAS_SIZE];
+    match canvas::draw_sheet(s, &mut text, &mut thins, &mut bodies, &mut grid) {
+        Drawing::Drawn(h, w, _, o) => {
+            let a = print::put_layers(out, at, &text, &thins, &bodies, &grid, w, h);
+            put_regions(out, a, &text, &thins, w, h, o.named)
+        }
+        Drawing::NotDrawn(r) => print::put_refusal(out, at, r),
+    }
+}
+
+// What became of a line: its answer ends at an index, or it is malformed.
 pub enum Answered {
     Upto(usize),
     NoText,
+}
+
+// The answer to what stands behind `split`.
+fn answer_split(
+    line: &[u8],
+    text: &mut [u8],
+    scratch: &mut [u8],
+    out: &mut [u8],
+    at: usize,
+) -> Answered
+    requires { ⌜ (at + lineBytes ≤ length (now out)) × (length (now text) ≡ textBytes) × (length (now scratch) ≡ textBytes) ⌝ }
+    ensures { λ r. ⌜ AnsweredIn r (splitAnswer textBytes (now (line .entry))) (now (out .entry)) (now (out .exit)) at ⌝ }
+{
+    match read_text(line, text) {
+        LineText::Text(n) => Answered::Upto(put_split_line(out, at, &text[0..n], scratch)),
+        LineText::Malformed => Answered::NoText,
+    }
+}
+
+// The answer to what stands behind `drawing`.
+fn answer_drawing(line: &[u8], text: &mut [u8], out: &mut [u8], at: usize) -> Answered
+    requires { ⌜ (at + lineBytes ≤ length (now out)) × (length (now text) ≡ textBytes) ⌝ }
+    ensures { λ r. ⌜ AnsweredIn r (drawingAnswer textBytes (now (line .entry))) (now (out .entry)) (now (out .exit)) at ⌝ }
+{
+    match read_text(line, text) {
+        LineText::Text(n) => Answered::Upto(put_drawing(out, at, &text[0..n])),
+        LineText::Malformed => Answered::NoText,
+    }
+}
+
+// What a line asks for.
+pub enum Kind {
+    Split,
+    Drawing,
+    Unknown,
+}
+
+// The kind that a word tells.
+fn kind_of(word: &[u8]) -> Kind
+    ensures { λ r. ⌜ r ≡ kindOf (now (word .entry)) ⌝ }
+{
+    if check::same(word, b"split") {
+        return Kind::Split;
+    }
+    if check::same(word, b"drawing") {
+        return Kind::Drawing;
+    }
+    Kind::Unknown
 }
 
 // The answer to a line.
@@ -216,18 +247,24 @@ fn answer_line(
     at: usize,
 ) -> Answered
     requires { ⌜ (at + lineBytes ≤ length (now out)) × (length (now text) ≡ textBytes) × (length (now scratch) ≡ textBytes) ⌝ }
-    ensures { λ r. ⌜ AnsweredIn r textBytes (now (line .entry)) (now (out .entry)) (now (out .exit)) at lineBytes ⌝ }
+    ensures { λ r. ⌜ AnsweredIn r (answerOf textBytes (now (line .entry))) (now (out .entry)) (now (out .exit)) at ⌝ }
 {
-    match read_text(line, text) {
-        LineText::Text(n) => Answered::Upto(put_answer(out, at, &text[0..n], scratch)),
-        LineText::Malformed => Answered::NoText,
+    let end = find(line, 0, 0x20);
+    if end == line.len() {
+        return Answered::NoText;
+    }
+    let start = end + 1;
+    match kind_of(&line[0..end]) {
+        Kind::Split => answer_split(&line[start..], text, scratch, out, at),
+        Kind::Drawing => answer_drawing(&line[start..], text, out, at),
+        Kind::Unknown => Answered::NoText,
     }
 }
 
 // How far the lines of the input are answered, the answers' count of bytes, and whether no line was malformed.
 struct Progress(usize, usize, bool);
 
-// The answers to the whole lines of the input, up to one that holds no text, or as many as there is room for.
+// The answers to the whole lines of the input, up to one that is malformed, or as many as there is room for.
 fn answer_lines(input: &[u8], text: &mut [u8], scratch: &mut [u8], out: &mut [u8]) -> Progress
     requires { ⌜ (length (now text) ≡ textBytes) × (length (now scratch) ≡ textBytes) ⌝ }
     ensures { λ r. ⌜ Replayed textBytes (take (r .0) (now (input .entry))) (take (r .1) (now (out .exit))) ⌝ }
@@ -308,7 +345,7 @@ fn replay_some(
     }
 }
 
-// Not at the end of the input, nor at a line that holds no text, nor where nothing can be written.
+// Not at the end of the input, nor at a malformed line, nor where nothing can be written.
 fn goes_on(got: usize, at: usize, is_good: bool, is_written: bool) -> bool {
     if !is_good {
         return false;
@@ -319,7 +356,7 @@ fn goes_on(got: usize, at: usize, is_good: bool, is_written: bool) -> bool {
     0 < got || 0 < at
 }
 
-// What waits at the end is no line of a text. (A proved loop has to end, so it counts its turns down.)
+// What waits at the end is no line to answer. (A proved loop has to end, so it counts its turns down.)
 fn replay(input: &mut [u8], text: &mut [u8], scratch: &mut [u8], out: &mut [u8])
     requires { ⌜ (length (now text) ≡ textBytes) × (length (now scratch) ≡ textBytes) ⌝ }
 {
@@ -336,7 +373,7 @@ fn replay(input: &mut [u8], text: &mut [u8], scratch: &mut [u8], out: &mut [u8])
     }
 }
 
-// The message where bytes are left that are no line of a text.
+// The message where bytes are left that are no line to answer.
 fn end_with(count: usize) {
     if 0 < count {
         io::write_all(libc::STDOUT_FILENO, b"malformed line\n");

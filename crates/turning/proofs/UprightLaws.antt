@@ -22,14 +22,14 @@ use Rattle.cells.proofs.PlaneLaws.{length-cells}
 use Rattle.turning.specs.Upright.{wide, turned}
 
 -- a built list without its first element
-pub drop-build : {A : Type 0} (n : ℕ) (f : ℕ → A) → drop 1 (build n f) ≡ build (n - 1) (λ i. f (i + 1))
+pub rest-build : {A : Type 0} (n : ℕ) (f : ℕ → A) → drop 1 (build n f) ≡ build (n - 1) (λ i. f (i + 1))
 unfolding run
-drop-build zero f = refl
-drop-build (suc n) f = let e : suc n - 1 ≡ n = omega arith in rw e (run-shift f 0 n ∙ build-same n (λ i. f (suc i)) (λ i. f (i + 1)) (λ i h. let z : suc i ≡ i + 1 = omega arith in ap f z))
+rest-build zero f = refl
+rest-build (suc n) f = let e : suc n - 1 ≡ n = omega arith in rw e (run-shift f 0 n ∙ build-same n (λ i. f (suc i)) (λ i. f (i + 1)) (λ i h. let z : suc i ≡ i + 1 = omega arith in ap f z))
 
 pub drop-row : (d : List ℕ) (row : ℕ) → drop 1 (rowIn d row) ≡ build (getD d row 0 - 1) (λ i. cellAt d row (i + 1))
 unfolding cellsIn
-drop-row d row = drop-build (getD d row 0) (cellAt d row)
+drop-row d row = rest-build (getD d row 0) (cellAt d row)
 
 pub dropped : (d : List ℕ) (n : ℕ) → map (drop 1) (planeIn d n) ≡ build n (λ row. drop 1 (rowIn d row))
 unfolding planeIn

@@ -15,13 +15,13 @@ use Rattle.lists.proofs.AnswerLaws.{refused-ok}
 use Rattle.lists.proofs.PutLaws.{put-front, length-put}
 use Rattle.lists.proofs.Tests.{by-flag}
 use Rattle.model.specs.declared.Refusal.the-variants.{InvalidUtf8, OutputSliceShort}
-use Rattle.unicode.specs.Utf8.{checked}
+use Rattle.unicode.specs.Utf8.{checked, onText}
 use Rattle.unicode.specs.declared.Checked.{Checked}
 use Rattle.unicode.specs.declared.Checked.the-variants.{Valid, Invalid}
 use Rattle.utils.specs.Commas.{parts}
 use Rattle.utils.specs.Emphasis.{Choice, plain, marked}
 use Rattle.utils.specs.Found.{FoundIn}
-use Rattle.utils.specs.Split.{replaceAll, Values, choiceOf, valuesBy, valuesOf, splitBy, onText, splitOf, scratchOf, answered, Places}
+use Rattle.utils.specs.Split.{replaceAll, Values, choiceOf, valuesBy, valuesOf, splitBy, splitOf, scratchOf, answered, Places}
 use Rattle.utils.specs.declared.Split.{Split}
 use Rattle.utils.specs.declared.Split.the-variants.{Own, Rewritten, NotSplit}
 use Rattle.utils.proofs.Finding.{between, Sized, first-sized}

@@ -12,7 +12,7 @@ use Rattle.lists.specs.Choose.{choose}
 use Rattle.lists.specs.OneOf.{oneOf}
 use Rattle.lists.specs.Picture.{Picture}
 use Rattle.lists.proofs.AnswerLaws.{refused-ok}
-use Rattle.lists.proofs.Tests.{both}
+use Rattle.lists.proofs.Tests.{both, choose-some}
 use Rattle.model.specs.declared.Rect.{Rect}
 use Rattle.walks.specs.Frame.{Kind, rectOf, frameOf, Frame, Starts}
 use Rattle.walks.specs.Sides.{allFrom, between, drawn, orElse, firstOf, frameAt, given, bySides}
@@ -105,10 +105,6 @@ module _ {A : Type 0} (f : ℕ → Option A) where
       (λ u. or-else (f k) (firstOf f (suc k) n) (found (suc k) n i a u (omega arith) e))
       (eq-or-lt-of-le p)
 
-chosen : {A : Type 0} (t : Bool) (a b : A) → choose t (some a) none ≡ some b → (t ≡ true) × (a ≡ b)
-chosen true a b e = (refl, cc)
-chosen false a b e = none-some e
-
 module _ (K : Kind) (p : Picture) (w h x y : ℕ) where
   abbrev here : ℕ → ℕ → Option Rect
   here bx by = choose (drawn K p x y bx by) (some (rectOf x y bx by)) none
@@ -118,7 +114,7 @@ module _ (K : Kind) (p : Picture) (w h x y : ℕ) where
   at-frame r e =
       let a = hit (λ bx. firstOf (here bx) 0 h) 0 w r e in
       let b = hit (here (a .0)) 0 h r (a .2) in
-      let t = chosen (drawn K p x y (a .0) (b .0)) (rectOf x y (a .0) (b .0)) r (b .2) in
+      let t = choose-some (drawn K p x y (a .0) (b .0)) (rectOf x y (a .0) (b .0)) r (b .2) in
       record { bx = a .0; by = b .0; is = sym (t .1); frame = drawn-frame K p w h x y (a .0) (b .0) (omega (arith, a .1)) (omega (arith, b .1)) (t .0) }
 
   frame-at : Sound K → (r : Rect) → Starts K p w h x y r → frameAt K p w h x y ≡ some r

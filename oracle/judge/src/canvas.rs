@@ -47,6 +47,9 @@ pub struct Plane {
     pub texts: Vec<String>,
 }
 
+/// The regions of a canvas in row order, and the text of each.
+pub type Regions = (Vec<Rect>, Vec<String>);
+
 /// Why there is no plane.
 #[derive(Debug, PartialEq, Eq)]
 pub enum Stop {
@@ -102,6 +105,11 @@ fn thin(c: char) -> char {
         '╫' | '╪' | '╬' => '┼',
         _ => BLANK,
     }
+}
+
+/// THIN: double lines as single ones.
+fn thin_layer(text: &Layer) -> Layer {
+    text.iter().map(|row| row.iter().map(|c| thin(*c)).collect()).collect()
 }
 
 /// From THIN to BODY, in the top row of the body.
@@ -275,7 +283,7 @@ fn region_text(text: &Layer, rect: &Rect) -> String {
 
 /// The regions of all corners of THIN: their count is tested first, then all are walked, then the
 /// bytes of their texts are added up.
-fn regions(text: &Layer, thin: &Layer) -> Result<(Vec<Rect>, Vec<String>), Stop> {
+fn regions(text: &Layer, thin: &Layer) -> Result<Regions, Stop> {
     let places = corners(thin);
     if places.len() > REGIONS {
         return Err(Stop::OverLimits);
@@ -318,12 +326,17 @@ impl Plane {
     }
 }
 
+/// The regions of a sheet's rows, where `Canvas::scan` succeeds.
+pub fn regions_of(rows: &Layer) -> Result<Regions, Stop> {
+    let (text, _) = filled(rows);
+    regions(&text, &thin_layer(&text))
+}
+
 /// The plane of a sheet's rows, where `Canvas::scan` succeeds.
 pub fn plane(rows: &Layer) -> Result<Plane, Stop> {
     let (text, blank) = filled(rows);
     let body = body(&text).ok_or(Stop::TheRust)?;
-    let thin_row = |row: &Vec<char>| row.iter().map(|c| thin(*c)).collect();
-    let thin: Layer = text.iter().map(thin_row).collect();
+    let thin = thin_layer(&text);
     let grid = grid_layer(body_layer(&thin, blank, &body.rect), &body.rect);
     let (regions, texts) = regions(&text, &thin)?;
     let mut plane = Plane { rows: vec![], regions, texts };

@@ -5,31 +5,34 @@ use judge::lent::{Lent, judge_plane};
 use judge::limits::RECORD_BYTES;
 use judge::outcome::{Fault, Judged, run, silence_the_rust};
 use judge::sheet::{self, judge_sheet};
-use judge::{count, split};
+use judge::{count, line};
 use recognizer::canvas::Canvas;
 use std::io::{self, BufWriter, Read, Write};
 use std::process::ExitCode;
 
 const USAGE: &str = "judge sheet|sheets|planes [--record-bytes N] < FILE
-judge layers|split|count < FILE
-judge generate --seed S --count N [--kind sheets|damaged|planes|splits|short-splits|short-bytes|long-splits]";
+judge layers|answers|stages|count < FILE
+judge generate --seed S --count N [--first K] [--kind sheets|damaged|planes|splits|short-splits|short-bytes|long-splits|drawings|damaged-drawings]";
 
 /// The options of all modes.
 struct Options {
     record_bytes: usize,
     seed: u64,
+    first: usize,
     count: usize,
     kind: Kind,
 }
 
 fn options(words: &[String]) -> Judged<Options> {
-    let mut options = Options { record_bytes: RECORD_BYTES, seed: 1, count: 1, kind: Kind::Sheets };
+    let mut options =
+        Options { record_bytes: RECORD_BYTES, seed: 1, first: 0, count: 1, kind: Kind::Sheets };
     for pair in words.chunks(2) {
         let fault = || Fault(USAGE.to_string());
         let [name, value] = pair else { return Err(fault()) };
         match name.as_str() {
             "--record-bytes" => options.record_bytes = value.parse().map_err(|_| fault())?,
             "--seed" => options.seed = value.parse().map_err(|_| fault())?,
+            "--first" => options.first = value.parse().map_err(|_| fault())?,
             "--count" => options.count = value.parse().map_err(|_| fault())?,
             "--kind" => options.kind = Kind::named(value).ok_or_else(fault)?,
             _ => return Err(fault()),
@@ -81,10 +84,16 @@ fn planes(out: &mut impl Write, options: &Options) -> Judged<()> {
     Ok(())
 }
 
-fn splits(out: &mut impl Write) -> Judged<()> {
+fn answers(out: &mut impl Write) -> Judged<()> {
     for line in input_lines()? {
-        let answer = split::judge_split(&split::parse(&line)?);
-        write(out, format!("{answer}\n").as_bytes())?;
+        line::answer(out, &line)?;
+    }
+    Ok(())
+}
+
+fn stages(out: &mut impl Write) -> Judged<()> {
+    for line in input_lines()? {
+        write(out, format!("{}\n", line::stage_of(&line)?).as_bytes())?;
     }
     Ok(())
 }
@@ -103,10 +112,11 @@ fn answer() -> Judged<()> {
         "sheets" => sheets(&mut out, &options)?,
         "layers" => layers()?,
         "planes" => planes(&mut out, &options)?,
-        "split" => splits(&mut out)?,
+        "answers" => answers(&mut out)?,
+        "stages" => stages(&mut out)?,
         "count" => write(&mut out, count::count(&input()?).as_bytes())?,
         "generate" => {
-            for case in 0..options.count {
+            for case in options.first..options.first + options.count {
                 write(&mut out, &generate(options.kind, options.seed, case as u64))?;
             }
         }

@@ -5,6 +5,7 @@ use crate::limits::{CANVAS_COLUMNS, CANVAS_ROWS};
 use crate::messages::refusal;
 use crate::outcome::{Fault, Judged, Outcome, agree, refused, refused_plainly, run};
 use crate::{record, sizes};
+use recognizer::canvas::Canvas;
 use recognizer::plane::Cell;
 use recognizer::{Recognizer, from_unicode};
 
@@ -73,33 +74,48 @@ fn same_plane(own: &canvas::Plane, rust: &recognizer::plane::Plane) -> bool {
         })
 }
 
+/// A fault, if the judge's own plane is not the Rust's where no limit is passed.
+pub fn compare_planes(
+    text: &str,
+    own: &Result<canvas::Plane, canvas::Stop>,
+    rust: &Result<dsntk_common::Result<recognizer::plane::Plane>, Outcome>,
+) -> Judged<()> {
+    let same = match (own, rust) {
+        (Err(canvas::Stop::OverLimits), _) => true,
+        (Ok(own), Ok(Ok(rust))) => same_plane(own, rust),
+        (own, rust) => own.is_err() && !matches!(rust, Ok(Ok(_))),
+    };
+    agree(same, || format!("planes differ on:\n{text}"))
+}
+
 /// Number 7, from the judge's own canvas. Where it finds none, it must see what the Rust sees.
 fn over_limits(text: &str, rows: &canvas::Layer) -> Judged<bool> {
-    let Ok(Ok(mut scanned)) = run(|| recognizer::canvas::Canvas::scan(text)) else {
+    let Ok(Ok(mut scanned)) = run(|| Canvas::scan(text)) else {
         return Ok(false);
     };
     let own = canvas::plane(rows);
-    if matches!(own, Err(canvas::Stop::OverLimits)) {
-        return Ok(true);
+    compare_planes(text, &own, &run(|| scanned.plane()))?;
+    Ok(matches!(own, Err(canvas::Stop::OverLimits)))
+}
+
+/// The text and the rows of a sheet whose canvas is not too large; else number 1 or 2.
+pub fn rows_of(bytes: &[u8]) -> Result<(&str, canvas::Layer), Outcome> {
+    let text = std::str::from_utf8(bytes)
+        .map_err(|error| refused(1, error.valid_up_to().into(), 0.into()))?;
+    let rows = canvas::collected(text);
+    let columns = canvas::width(&rows);
+    if rows.len() > CANVAS_ROWS || columns > CANVAS_COLUMNS {
+        return Err(refused(2, rows.len().into(), columns.into()));
     }
-    let same = match (&own, run(|| scanned.plane())) {
-        (Ok(own), Ok(Ok(rust))) => same_plane(own, &rust),
-        (own, rust) => own.is_err() && !matches!(rust, Ok(Ok(_))),
-    };
-    agree(same, || format!("planes differ on:\n{text}")).map(|_| false)
+    Ok((text, rows))
 }
 
 /// The answer to the bytes of a sheet.
 pub fn judge_sheet(bytes: &[u8], record_bytes: usize) -> Judged<Outcome> {
-    let text = match std::str::from_utf8(bytes) {
-        Ok(text) => text,
-        Err(error) => return Ok(refused(1, error.valid_up_to().into(), 0.into())),
+    let (text, rows) = match rows_of(bytes) {
+        Ok(found) => found,
+        Err(outcome) => return Ok(outcome),
     };
-    let rows = canvas::collected(text);
-    let columns = canvas::width(&rows);
-    if rows.len() > CANVAS_ROWS || columns > CANVAS_COLUMNS {
-        return Ok(refused(2, rows.len().into(), columns.into()));
-    }
     if over_limits(text, &rows)? {
         return Ok(refused_plainly(7));
     }

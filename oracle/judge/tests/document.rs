@@ -102,7 +102,7 @@ fn a_frame_that_is_not_closed() {
 fn value_splits() {
     let split = |text: &str| judge_split(text.as_bytes());
     let values = |values: &str, default: &str| {
-        let numbers = judge::split::numbers;
+        let numbers = |text: &str| judge::line::listed(text.as_bytes());
         format!("values {} default {}", numbers(values), numbers(default))
     };
     assert_eq!(split("`Yes`, No"), values("Yes, No", "Yes"));

@@ -1,35 +1,64 @@
 -- `replay::answer_line` meets its contract.
-use mathlib.Core.Path.{refl, _∙_}
-use Rattle.replay.proofs.Replaying.{within, text-fits, answered-text, answered-none}
+use mathlib.Core.Path.{refl, sym}
+use Rattle.replay.proofs.Replaying.{answer-is, no-rest, answered-as}
 use native.Mathlib.Omega.{arith}
 use borrow.Author.Needs.{needs}
 use Rattle.replay.proofs.answer_line.Statement.{statement}
 use Rattle.replay.proofs.answer_line.Tie as tie
 
-read-text-requires : tie.Need-read-text-requires
-read-text-requires c κs = search needs
+find-requires : tie.Need-find-requires
+find-requires c κs = search needs
 
-enum-known-n : tie.Need-enum-known-n
-enum-known-n c = search needs
+returns : tie.Need-returns
+returns c = (no-rest (c .before .find .ensures) (c .if1 .taken), refl)
 
-sub-put-answer : tie.Need-sub-put-answer
-sub-put-answer c = search needs
+add-start : tie.Need-add-start
+add-start c = search needs
 
-part-put-answer-start : tie.Need-part-put-answer-start
-part-put-answer-start c = search needs
+sub-kind-of : tie.Need-sub-kind-of
+sub-kind-of c = search needs
 
-part-put-answer-end : tie.Need-part-put-answer-end
-part-put-answer-end c = let r = c .before .before .before .before .before .before .before in
-    omega (arith, within _ _ (r .read-text .ensures .1) (c .before .before .before .n .given .1))
+part-kind-of-start : tie.Need-part-kind-of-start
+part-kind-of-start c = search needs
 
-put-answer-requires : tie.Need-put-answer-requires
-put-answer-requires c κs = let n = c .before .before .before .before .before in
-    let r = n .before .before .before .before in
-    let b = r .before .before .before .before .before .before in
-    (b .pre .0, text-fits _ _ (n .n .given .1) (r .read-text .kept .1 .0 ∙ b .pre .1), omega (arith, b .pre .2))
+part-kind-of-end : tie.Need-part-kind-of-end
+part-kind-of-end c = search needs
+
+kind-of-requires : tie.Need-kind-of-requires
+kind-of-requires c κs = search needs
 
 enum-told : tie.Need-enum-told
 enum-told c = search needs
+
+sub-answer-split : tie.Need-sub-answer-split
+sub-answer-split c = search needs
+
+part-answer-split-start : tie.Need-part-answer-split-start
+part-answer-split-start c = search needs
+
+part-answer-split-end : tie.Need-part-answer-split-end
+part-answer-split-end c = search needs
+
+answer-split-requires : tie.Need-answer-split-requires
+answer-split-requires c κs = search needs
+
+enum-told-2 : tie.Need-enum-told-2
+enum-told-2 c = search needs
+
+sub-answer-drawing : tie.Need-sub-answer-drawing
+sub-answer-drawing c = search needs
+
+part-answer-drawing-start : tie.Need-part-answer-drawing-start
+part-answer-drawing-start c = search needs
+
+part-answer-drawing-end : tie.Need-part-answer-drawing-end
+part-answer-drawing-end c = search needs
+
+answer-drawing-requires : tie.Need-answer-drawing-requires
+answer-drawing-requires c κs = search needs
+
+enum-told-3 : tie.Need-enum-told-3
+enum-told-3 c = search needs
 
 same-length : tie.Need-same-length
 same-length c = search needs
@@ -40,35 +69,48 @@ same-length-2 c = search needs
 same-length-3 : tie.Need-same-length-3
 same-length-3 c = search needs
 
-returns : tie.Need-returns
-returns c = let p = c .before .before .before .before in
-    let n = p .before .before .before .before .before .before in
-    let r = n .before .before .before .before in
-    let b = r .before .before .before .before .before .before in
-    answered-text _ _ _ _ (r .read-text .ensures .0) (b .pre .1) _ (n .n .given .1) (b .pre .2) (p .put-answer .ensures)
+returns-2 : tie.Need-returns-2
+returns-2 c = answered-as (c .before .before .before .before .before .before .answer-split .result) _ _ _ (c .before .before .before .before .before .before .answer-split .ensures) (answer-is (c .before .before .before .before .before .before .before .before .before .before .before .before .before .before .before .before .find .ensures) _ _ (c .before .before .before .before .before .before .before .before .before .before .before .before .before .kind-of .ensures) (c .before .before .before .before .before .before .before .before .before .before .before .enum-told .given .1))
 
 same-length-4 : tie.Need-same-length-4
 same-length-4 c = search needs
 
-returns-2 : tie.Need-returns-2
-returns-2 c = let r = c .before .before .before .before in
-    let b = r .before .before .before .before .before .before in
-    (answered-none _ _ _ _ (r .read-text .ensures .0) (b .pre .1) (c .enum-told .given .1), refl)
+same-length-5 : tie.Need-same-length-5
+same-length-5 c = search needs
+
+returns-3 : tie.Need-returns-3
+returns-3 c = answered-as (c .before .before .before .before .answer-drawing .result) _ _ _ (c .before .before .before .before .answer-drawing .ensures) (answer-is (c .before .before .before .before .before .before .before .before .before .before .before .before .before .find .ensures) _ _ (c .before .before .before .before .before .before .before .before .before .before .kind-of .ensures) (c .before .before .before .before .before .before .before .before .enum-told2 .given .1))
+
+returns-4 : tie.Need-returns-4
+returns-4 c = (sym (answer-is (c .before .before .before .before .before .find .ensures) _ _ (c .before .before .kind-of .ensures) (c .enum-told3 .given .1)), refl)
 
 pub answer-line-spec : {M : Type 1} → statement M
 answer-line-spec =
     tie.close
     (tie.spec
-    read-text-requires
-    enum-known-n
-    sub-put-answer
-    part-put-answer-start
-    part-put-answer-end
-    put-answer-requires
+    find-requires
+    returns
+    add-start
+    sub-kind-of
+    part-kind-of-start
+    part-kind-of-end
+    kind-of-requires
     enum-told
+    sub-answer-split
+    part-answer-split-start
+    part-answer-split-end
+    answer-split-requires
+    enum-told-2
+    sub-answer-drawing
+    part-answer-drawing-start
+    part-answer-drawing-end
+    answer-drawing-requires
+    enum-told-3
     same-length
     same-length-2
     same-length-3
-    returns
+    returns-2
     same-length-4
-    returns-2)
+    same-length-5
+    returns-3
+    returns-4)

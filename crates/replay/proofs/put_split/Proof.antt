@@ -2,7 +2,7 @@
 use mathlib.Core.Path.{ap, sym}
 use Rattle.utils.specs.Split.{answered}
 use Rattle.replay.specs.Answers.{printed}
-use Rattle.replay.proofs.WrittenLaws.{written-as, written-within}
+use Rattle.print.proofs.WrittenLaws.{written-as, written-within}
 use Rattle.replay.proofs.Replaying.{places, printed-values, parts-most}
 use native.Mathlib.Omega.{arith}
 use borrow.Author.Needs.{needs}

@@ -1,4 +1,4 @@
-//! The seeded generator of sheets, damaged sheets, lent planes and split texts. Every case has its
+//! The seeded generator of sheets, damaged sheets, lent planes, split texts and drawings. Every case has its
 //! own random numbers, so that it does not change with the cases before it.
 
 pub mod around;
@@ -13,7 +13,7 @@ pub mod sheets;
 pub mod splits;
 pub mod texts;
 
-use crate::split::listed;
+use crate::line::listed;
 use random::Random;
 
 /// What is generated.
@@ -26,6 +26,8 @@ pub enum Kind {
     ShortSplits,
     ShortBytes,
     LongSplits,
+    Drawings,
+    DamagedDrawings,
 }
 
 impl Kind {
@@ -39,27 +41,40 @@ impl Kind {
             "short-splits" => Some(Kind::ShortSplits),
             "short-bytes" => Some(Kind::ShortBytes),
             "long-splits" => Some(Kind::LongSplits),
+            "drawings" => Some(Kind::Drawings),
+            "damaged-drawings" => Some(Kind::DamagedDrawings),
             _ => None,
+        }
+    }
+
+    /// The kind whose random numbers are taken: drawings are the sheets as lines.
+    fn source(self) -> Self {
+        match self {
+            Kind::Drawings => Kind::Sheets,
+            Kind::DamagedDrawings => Kind::Damaged,
+            kind => kind,
         }
     }
 }
 
 /// One case, in the format of its kind.
 pub fn generate(kind: Kind, seed: u64, case: u64) -> Vec<u8> {
-    let mut random = Random::of(&[kind as u64, seed, case]);
+    let mut random = Random::of(&[kind.source() as u64, seed, case]);
     match kind {
         Kind::Sheets => sheet(sheets::good(&mut random)),
         Kind::Damaged => sheet(damage::damaged(&mut random)),
-        Kind::Planes => line(planes::plane(&mut random).line()),
-        Kind::Splits => line(listed(&splits::text(&mut random))),
-        Kind::ShortSplits => line(listed(&splits::short(case))),
-        Kind::ShortBytes => line(listed(&splits::short_bytes(case))),
-        Kind::LongSplits => line(listed(&splits::long(&mut random))),
+        Kind::Planes => (planes::plane(&mut random).line() + "\n").into_bytes(),
+        Kind::Splits => line("split", &splits::text(&mut random)),
+        Kind::ShortSplits => line("split", &splits::short(case)),
+        Kind::ShortBytes => line("split", &splits::short_bytes(case)),
+        Kind::LongSplits => line("split", &splits::long(&mut random)),
+        Kind::Drawings => line("drawing", &sheets::good(&mut random)),
+        Kind::DamagedDrawings => line("drawing", &damage::damaged(&mut random)),
     }
 }
 
-fn line(text: String) -> Vec<u8> {
-    (text + "\n").into_bytes()
+fn line(kind: &str, bytes: &[u8]) -> Vec<u8> {
+    format!("{kind} {}\n", listed(bytes)).into_bytes()
 }
 
 fn sheet(bytes: Vec<u8>) -> Vec<u8> {

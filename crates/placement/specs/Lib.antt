@@ -1,0 +1,4 @@
+pub mod Placement
+pub mod Orientation
+pub mod Line
+pub mod Told

@@ -1,0 +1,5 @@
+-- Laws of what is printed.
+pub mod DecimalLaws
+pub mod WrittenLaws
+pub mod LayerLaws
+pub mod RegionLaws

@@ -1,0 +1,40 @@
+-- `replay::kind_of` meets its contract.
+use mathlib.Core.Path.{_∙_}
+use Rattle.replay.proofs.KindLaws.{is-word, kind-split, kind-drawing, kind-unknown}
+use native.Mathlib.Omega.{arith}
+use borrow.Author.Needs.{needs}
+use Rattle.replay.proofs.kind_of.Statement.{statement}
+use Rattle.replay.proofs.kind_of.Tie as tie
+
+slice-aggregate-same : tie.Need-slice-aggregate-same
+slice-aggregate-same c = search needs
+
+same-requires : tie.Need-same-requires
+same-requires c κs = search needs
+
+returns : tie.Need-returns
+returns c = kind-split _ (is-word _ _ _ (c .before .same .ensures) ∙ c .if1 .taken)
+
+slice-aggregate-same-2 : tie.Need-slice-aggregate-same-2
+slice-aggregate-same-2 c = search needs
+
+same-requires-2 : tie.Need-same-requires-2
+same-requires-2 c κs = search needs
+
+returns-2 : tie.Need-returns-2
+returns-2 c = kind-drawing _ (is-word _ _ _ (c .before .before .before .before .same .ensures) ∙ c .before .before .before .if1 .left) (is-word _ _ _ (c .before .same2 .ensures) ∙ c .if2 .taken)
+
+returns-3 : tie.Need-returns-3
+returns-3 c = kind-unknown _ (is-word _ _ _ (c .before .before .before .before .same .ensures) ∙ c .before .before .before .if1 .left) (is-word _ _ _ (c .before .same2 .ensures) ∙ c .if2 .left)
+
+pub kind-of-spec : {M : Type 1} → statement M
+kind-of-spec =
+    tie.close
+    (tie.spec
+    slice-aggregate-same
+    same-requires
+    returns
+    slice-aggregate-same-2
+    same-requires-2
+    returns-2
+    returns-3)

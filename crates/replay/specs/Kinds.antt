@@ -1,0 +1,29 @@
+-- The word that a line begins with.
+use mathlib.Core.List.{List, [], _∷_}
+use Prim.Native.Nat.{ℕ, suc}
+use lib.ListN.{length, drop}
+use Rattle.lists.specs.Choose.{choose}
+use Rattle.model.specs.Policies.{sameText}
+use Rattle.print.specs.Lines.{blank}
+use Rattle.replay.specs.Texts.{before}
+use Rattle.replay.specs.declared.Kind.{Kind}
+use Rattle.replay.specs.declared.Kind.the-variants.{Split, Drawing, Unknown}
+
+-- "split"
+abbrev pub splitWord : List ℕ
+splitWord = 0x73 ∷ 0x70 ∷ 0x6C ∷ 0x69 ∷ 0x74 ∷ []
+
+-- "drawing"
+abbrev pub drawingWord : List ℕ
+drawingWord = 0x64 ∷ 0x72 ∷ 0x61 ∷ 0x77 ∷ 0x69 ∷ 0x6E ∷ 0x67 ∷ []
+
+-- what a word asks for
+unfoldable pub kindOf : List ℕ → Kind
+kindOf word = choose (sameText word splitWord) Split (choose (sameText word drawingWord) Drawing Unknown)
+
+-- a line's first word, and what stands behind it and a blank
+abbrev pub wordOf : List ℕ → List ℕ
+wordOf line = before blank line
+
+abbrev pub restOf : List ℕ → List ℕ
+restOf line = drop (suc (length (before blank line))) line
