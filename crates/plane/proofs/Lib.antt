@@ -1,0 +1,5 @@
+-- Laws and theorems of the upright sheet.
+pub mod RegionsKept
+pub mod TurnedTwice
+pub mod TurnedColumnSheet
+pub mod StatedLaws
