@@ -2,3 +2,4 @@
 pub mod PlaneLaws
 pub mod FillLaws
 pub mod SpanLaws
+pub mod AmongLaws

@@ -1,6 +1,7 @@
 -- Laws of the definitions of specs/, for the proofs of every crate.
 pub mod Tests
 pub mod Parts
+pub mod AllLaws
 pub mod AnswerLaws
 pub mod RunLaws
 pub mod PutLaws

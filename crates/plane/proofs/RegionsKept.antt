@@ -22,8 +22,8 @@ abbrev pub cellOn : Plane → ℕ → ℕ → Cell
 cellOn P row i = getD (getD P row []) i MainDoubleCrossing
 
 -- every region's number is below `count`
-abbrev pub Among : ℕ → Plane → Type 0
-Among count P = (row i r : ℕ) → cellOn P row i ≡ Region r → r < count
+abbrev pub RegionsBelow : ℕ → Plane → Type 0
+RegionsBelow count P = (row i r : ℕ) → cellOn P row i ≡ Region r → r < count
 
 -- below a number, or not
 by-place : {A : Type 0} (i n : ℕ) → (i < n → A) → (n ≤ i → A) → A
@@ -55,14 +55,14 @@ module _ (d : List ℕ) (n : ℕ) where
   unfolding cellsIn
   off-cell row i h k = on-row row i h ∙ getD-run-out (cellAt d row) 0 (getD d row 0) i MainDoubleCrossing k
 
-  pub slice-among : (count : ℕ) → ((row i r : ℕ) → row < n → i < getD d row 0 → cellAt d row i ≡ Region r → r < count) → Among count (planeIn d n)
-  slice-among count f row i r e =
+  pub slice-below : (count : ℕ) → ((row i r : ℕ) → row < n → i < getD d row 0 → cellAt d row i ≡ Region r → r < count) → RegionsBelow count (planeIn d n)
+  slice-below count f row i r e =
       by-place row n
       (λ h. by-place i (getD d row 0) (λ k. f row i r h k (sym (on-cell row i h k) ∙ e)) (λ k. no-region (sym (off-cell row i h k) ∙ e)))
       (λ h. no-region (sym (off-row row i h) ∙ e))
 
-  pub among-slice : (count : ℕ) → Among count (planeIn d n) → (row i r : ℕ) → row < n → i < getD d row 0 → cellAt d row i ≡ Region r → r < count
-  among-slice count f row i r h k e = f row i r (on-cell row i h k ∙ e)
+  pub below-slice : (count : ℕ) → RegionsBelow count (planeIn d n) → (row i r : ℕ) → row < n → i < getD d row 0 → cellAt d row i ≡ Region r → r < count
+  below-slice count f row i r h k e = f row i r (on-cell row i h k ∙ e)
 
 turned-region : (c : Cell) (r : ℕ) → turnedCell c ≡ Region r → c ≡ Region r
 turned-region (Region q) r e = e
@@ -74,18 +74,18 @@ turned-region MainDoubleCrossing r e = no-region e
 turned-region HorizontalDoubleCrossing r e = let z : _≡_ {A = ℕ} 0 1 = cc in absurd (omega arith)
 turned-region VerticalDoubleCrossing r e = let z : _≡_ {A = ℕ} 0 1 = cc in absurd (omega arith)
 
-module _ (count : ℕ) (P : Plane) (f : Among count P) where
+module _ (count : ℕ) (P : Plane) (f : RegionsBelow count P) where
   -- without the first column
-  pub rest-among : Among count (map (drop 1) P)
-  rest-among row i r e =
+  pub rest-below : RegionsBelow count (map (drop 1) P)
+  rest-below row i r e =
       by-place row (length P)
       (λ h. f row (1 + i) r (sym (ap (λ (l : List Cell). getD l i MainDoubleCrossing) (getD-map (drop 1) P row [] [] h) ∙ getD-drop 1 (getD P row []) i MainDoubleCrossing) ∙ e))
       (λ h. no-region (sym (ap (λ (l : List Cell). getD l i MainDoubleCrossing) (past (map (drop 1) P) row [] (omega (arith, length-map P (drop 1))))) ∙ e))
 
   -- turned
-  pub turned-among : Among count (turned P)
+  pub turned-below : RegionsBelow count (turned P)
   unfolding transpose column
-  turned-among row i r e =
+  turned-below row i r e =
       by-place row (width P)
       (λ h. by-place i (length P)
         (λ k. f i row r (turned-region (cellOn P i row) r (sym (transpose-at turnedCell MainDoubleCrossing P i row MainDoubleCrossing k h) ∙ e)))
@@ -105,5 +105,5 @@ but-at (l ∷ []) row i r e = no-region e
 but-at (l ∷ m ∷ P) zero i r e = e
 but-at (l ∷ m ∷ P) (suc row) i r e = but-at (m ∷ P) row i r e
 
-pub but-among : (count : ℕ) (P : Plane) → Among count P → Among count (butLast P)
-but-among count P f row i r e = f row i r (but-at P row i r e)
+pub but-below : (count : ℕ) (P : Plane) → RegionsBelow count P → RegionsBelow count (butLast P)
+but-below count P f row i r e = f row i r (but-at P row i r e)

@@ -18,7 +18,7 @@ use Rattle.placement.proofs.CornerLaws.{placed-rows}
 use Rattle.model.specs.declared.Cell.the-variants.{HorizontalDoubleCrossing, VerticalDoubleCrossing}
 use Rattle.turning.specs.Upright.{butLast, turned, pivotOf, uprightOf}
 use Rattle.plane.specs.Sheet.{Sheet, statedSheet}
-use Rattle.plane.proofs.RegionsKept.{Among, slice-among, among-slice, rest-among, turned-among, but-among}
+use Rattle.plane.proofs.RegionsKept.{RegionsBelow, slice-below, below-slice, rest-below, turned-below, but-below}
 use Rattle.plane.proofs.TurnedColumnSheet.{pivot-ok}
 
 -- a plane that is oriented has a row
@@ -43,19 +43,19 @@ module _ (text : ℕ → List ℕ) (P : Plane) where
     upright U u = rw (← e, ← u)
 
 -- the upright sheet's regions are those of its plane
-upright-among : (count : ℕ) (o : Orientation) (P U : Plane) → ok U ≡ uprightOf o P → Among count P → Among count U
+upright-below : (count : ℕ) (o : Orientation) (P U : Plane) → ok U ≡ uprightOf o P → RegionsBelow count P → RegionsBelow count U
 unfolding uprightOf
-upright-among count RulesAsRows P U e f = let z : map (drop 1) P ≡ U = cc in subst (Among count) z (rest-among count P f)
-upright-among count RulesAsColumns P U e f =
+upright-below count RulesAsRows P U e f = let z : map (drop 1) P ≡ U = cc in subst (RegionsBelow count) z (rest-below count P f)
+upright-below count RulesAsColumns P U e f =
     let z = pivot-ok (butLast P) U (sym e) in
-    subst (Among count) (sym (z .0)) (turned-among count (butLast P) (but-among count P f))
+    subst (RegionsBelow count) (sym (z .0)) (turned-below count (butLast P) (but-below count P f))
 
 pub upright-held : (o : Orientation) (d : List ℕ) (n : ℕ) (out : List ℕ) (m : ℕ) (bytes spans : List ℕ) (count : ℕ) → Held d n bytes spans count
     → ok (planeIn out m) ≡ uprightOf o (planeIn d n) → PlaneFits out m → Held out m bytes spans count
 upright-held o d n out m bytes spans count h e f =
     record {
       fits = f;
-      regions = among-slice out m count (upright-among count o (planeIn d n) (planeIn out m) e (slice-among d n count (h .regions)));
+      regions = below-slice out m count (upright-below count o (planeIn d n) (planeIn out m) e (slice-below d n count (h .regions)));
       twoEach = h .twoEach;
       inside = h .inside;
     }

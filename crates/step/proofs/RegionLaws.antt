@@ -47,7 +47,7 @@ module _ {f : Rect} {d : List ℕ} {n i : ℕ} (q : Searching f d n i) where
       sym (rw z) ∙ q .same
 
 -- the number of a region is below their count
-number-in : (f : Rect) (k i : ℕ) (rs : List Rect) → regionFrom f k rs ≡ ok i → i < k + length rs
+pub number-in : (f : Rect) (k i : ℕ) (rs : List Rect) → regionFrom f k rs ≡ ok i → i < k + length rs
 unfolding regionFrom
 number-in f k i [] e = refused-ok e
 number-in f k i (r ∷ rs) e = go (containsOf r f) e (number-in f (suc k) i rs)
