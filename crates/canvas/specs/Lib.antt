@@ -1,3 +1,4 @@
 pub mod Layers
 pub mod Drawn
 pub mod RegionTexts
+pub mod DrawnPlane

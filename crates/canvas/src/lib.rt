@@ -1,10 +1,11 @@
-// From the bytes of a sheet to its outline and its four layers.
+// From the bytes of a sheet to its outline, its four layers, its regions with their texts, and its plane.
 use model::Rect;
 use model::Refusal;
 use outline::Outline;
 use outline::Outlined;
 use regions::Counted;
 use scan::Scanned;
+use step::PlaneMade;
 use texts::Gathered;
 use unicode::Checked;
 ghost use mathlib.Core.Path.{_≡_};
@@ -18,6 +19,7 @@ ghost use Rattle.layers.specs.Thin.{thinPicture};
 ghost use Rattle.scan.specs.Canvas.{rowsAt};
 ghost use Rattle.canvas.specs.Layers.{drawingOf, sheetOf};
 ghost use Rattle.canvas.specs.Drawn.{outlineIn, LayersIn, Ended, Room};
+ghost use Rattle.canvas.specs.DrawnPlane.{textPlaneOf, planeRead, PlaneHeld, PlaneRoom};
 ghost use Rattle.canvas.specs.RegionTexts.{regionTextsOf, regionsIn, UsedIn, RegionRoom};
 
 // The canvas's rows and columns, where the text behind the sheet starts, and the outline; or a refusal.
@@ -121,5 +123,37 @@ pub fn read_regions(
             Gathered::NotGathered(r) => RegionsRead::NotRead(r),
         },
         Counted::NotCounted(r) => RegionsRead::NotRead(r),
+    }
+}
+
+// So many rows of a plane, with so many regions; or a refusal.
+pub enum PlaneRead {
+    Rows(usize, usize),
+    NoPlane(Refusal),
+}
+
+// The plane of the layers of a drawing, and the texts of its regions.
+pub fn read_plane(
+    o: Outline,
+    text: &[u32],
+    thins: &[u32],
+    grid: &[u32],
+    w: usize,
+    h: usize,
+    rects: &mut [u32],
+    bytes: &mut [u8],
+    spans: &mut [u32],
+    plane: &mut [u32],
+) -> PlaneRead
+    requires { ⌜ PlaneRoom w h (now text) (now thins) (now grid) (now rects) (now bytes) (now spans) (now plane) ⌝ }
+    ensures answer { λ r. ⌜ planeRead r (now (plane .exit)) (now (bytes .exit)) (now (spans .exit)) ≡ textPlaneOf o (canvas w h (now (text .entry))) (canvas w h (now (thins .entry))) (canvas w h (now (grid .entry))) w h ⌝ }
+    ensures held { λ r. ⌜ PlaneHeld r (now (plane .exit)) (now (bytes .exit)) (now (spans .exit)) ⌝ }
+{
+    match read_regions(text, thins, w, h, rects, bytes, spans) {
+        RegionsRead::Read(count, _) => match step::make_plane(o, grid, w, h, rects, count, plane) {
+            PlaneMade::Made(n) => PlaneRead::Rows(n, count),
+            PlaneMade::NotMade(r) => PlaneRead::NoPlane(r),
+        },
+        RegionsRead::NotRead(r) => PlaneRead::NoPlane(r),
     }
 }

@@ -88,8 +88,8 @@ module _ (count : ℕ) (P : Plane) (f : RegionsBelow count P) where
   turned-below row i r e =
       by-place row (width P)
       (λ h. by-place i (length P)
-        (λ k. f i row r (turned-region (cellOn P i row) r (sym (transpose-at turnedCell MainDoubleCrossing P i row MainDoubleCrossing k h) ∙ e)))
-        (λ k. no-region (sym (short h k) ∙ e)))
+      (λ k. f i row r (turned-region (cellOn P i row) r (sym (transpose-at turnedCell MainDoubleCrossing P i row MainDoubleCrossing k h) ∙ e)))
+      (λ k. no-region (sym (short h k) ∙ e)))
       (λ h. no-region (sym (ap (λ (l : List Cell). getD l i MainDoubleCrossing) (getD-run-out (column turnedCell MainDoubleCrossing P) 0 (width P) row [] h)) ∙ e))
     where
       short : row < width P → length P ≤ i → cellOn (turned P) row i ≡ MainDoubleCrossing
