@@ -1,5 +1,5 @@
 -- A cell more in a row, a row more in a plane, and what a slice keeps.
-use mathlib.Core.Path.{_≡_, refl, ap, _∙_}
+use mathlib.Core.Path.{_≡_, refl, sym, ap, _∙_}
 use mathlib.Core.List.{List, [], _∷_, _++_}
 use mathlib.Core.Logic.{⊎-elim}
 use Prim.Native.Nat.{ℕ, _+_, _*_, _≤_, _<_}
@@ -7,10 +7,12 @@ use native.Mathlib.Nat.{eq-or-lt-of-le}
 use native.Mathlib.Omega.{arith}
 use lib.ListN.{length, getD, set, length-set}
 use lib.Seq.{getD-set-same, getD-set-other}
-use Rattle.lists.proofs.RunLaws.{build-next, build-same, length-run}
+use Rattle.lists.specs.Run.{build}
+use Rattle.lists.proofs.RunLaws.{build-next, build-same, getD-build, length-run}
 use Rattle.model.specs.Cells.{cellOf, cellNumber}
 use Rattle.model.specs.Limits.{planeRows, planeCells, planeSize}
 use Rattle.model.specs.declared.Cell.{Cell}
+use Rattle.model.specs.declared.Cell.the-variants.{MainDoubleCrossing}
 use Rattle.model.proofs.CellLaws.{cell-number}
 use Rattle.cells.specs.Plane.{placeAt, cellAt, cellsIn, rowIn, planeIn, PlaneFits, KeptBefore}
 
@@ -40,6 +42,21 @@ cells-same d d' row n h = build-same n (cellAt d' row) (cellAt d row) (λ i l. a
 pub plane-same : (d d' : List ℕ) (n : ℕ) → ((row : ℕ) → row < n → rowIn d' row ≡ rowIn d row) → planeIn d' n ≡ planeIn d n
 unfolding planeIn
 plane-same d d' n h = build-same n (rowIn d') (rowIn d) h
+
+-- a row, and a cell, of a plane that is known by places
+pub plane-row : (d : List ℕ) (n : ℕ) (g : ℕ → List Cell) → planeIn d n ≡ build n g → (row : ℕ) → row < n → rowIn d row ≡ g row
+unfolding planeIn
+plane-row d n g e row h = sym (getD-build n (rowIn d) row [] h) ∙ ap (λ (l : List (List Cell)). getD l row []) e ∙ getD-build n g row [] h
+
+pub row-length : (d : List ℕ) (row m : ℕ) (f : ℕ → Cell) → rowIn d row ≡ build m f → getD d row 0 ≡ m
+row-length d row m f e = sym (length-cells d row (getD d row 0)) ∙ ap length e ∙ length-run f 0 m
+
+pub row-cell : (d : List ℕ) (row m : ℕ) (f : ℕ → Cell) → rowIn d row ≡ build m f → (i : ℕ) → i < m → cellAt d row i ≡ f i
+unfolding cellsIn
+row-cell d row m f e i h =
+    let l : getD d row 0 ≡ m = row-length d row m f e in
+    sym (getD-build (getD d row 0) (cellAt d row) i MainDoubleCrossing (omega arith)) ∙ ap (λ (l : List Cell). getD l i MainDoubleCrossing) e
+    ∙ getD-build m f i MainDoubleCrossing h
 
 module _ (d : List ℕ) (row i v : ℕ) where
   abbrev stored : List ℕ

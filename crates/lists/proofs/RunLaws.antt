@@ -1,10 +1,10 @@
 -- Laws of lists by their places.
 use mathlib.Core.Path.{_≡_, refl, ap, _∙_}
 use mathlib.Core.List.{List, [], _∷_, _++_, map}
-use Prim.Native.Nat.{ℕ, zero, suc, _+_, _≤_, _<_}
+use Prim.Native.Nat.{ℕ, zero, suc, _+_, _-_, _≤_, _<_}
 use native.Mathlib.Numerals.{add-one}
 use native.Mathlib.Omega.{arith}
-use lib.ListN.{length, getD, drop, drop-of-length-le}
+use lib.ListN.{length, getD, take, drop, drop-of-length-le}
 use Rattle.lists.specs.Run.{run, build}
 use Rattle.lists.proofs.Parts.{at-cons}
 
@@ -33,6 +33,35 @@ module _ {A : Type 0} where
   unfolding run
   run-shift f k zero = refl
   run-shift f k (suc n) = ap (λ (l : List A). f (suc k) ∷ l) (run-shift f (suc k) n)
+
+  pub run-from : (f : ℕ → A) (k n : ℕ) → run f k n ≡ build n (λ i. f (k + i))
+  unfolding run
+  run-from f zero n = run-same f (λ i. f (0 + i)) 0 n (λ i p q. let e : i ≡ 0 + i = omega arith in ap f e)
+  run-from f (suc k) n =
+      run-shift f k n ∙ run-from (λ i. f (suc i)) k n
+      ∙ run-same (λ i. f (suc (k + i))) (λ i. f (suc k + i)) 0 n (λ i p q. let e : suc (k + i) ≡ suc k + i = omega arith in ap f e)
+
+  take-run : (f : ℕ → A) (k m n : ℕ) → n ≤ m → take n (run f k m) ≡ run f k n
+  unfolding run
+  take-run f k m zero h = refl
+  take-run f k zero (suc n) h = absurd (omega arith)
+  take-run f k (suc m) (suc n) h = ap (λ (l : List A). f k ∷ l) (take-run f (suc k) m n (omega arith))
+
+  drop-run : (f : ℕ → A) (k m n : ℕ) → n ≤ m → drop n (run f k m) ≡ run f (k + n) (m - n)
+  unfolding run
+  drop-run f k m zero h = let e : k + 0 ≡ k = omega arith in let z : m - 0 ≡ m = omega arith in rw (e, z)
+  drop-run f k zero (suc n) h = absurd (omega arith)
+  drop-run f k (suc m) (suc n) h =
+      let e : suc k + n ≡ k + suc n = omega arith in
+      let z : m - n ≡ suc m - suc n = omega arith in
+      drop-run f (suc k) m n (omega arith) ∙ rw (e, z)
+
+  -- a part of a built list
+  pub part-build : (m : ℕ) (f : ℕ → A) (from n : ℕ) → from + n ≤ m → take n (drop from (build m f)) ≡ build n (λ i. f (from + i))
+  part-build m f from n h =
+      let e : 0 + from ≡ from = omega arith in
+      ap (take n) (drop-run f 0 m from (omega arith) ∙ ap (λ (k : ℕ). run f k (m - from)) e) ∙ take-run f from (m - from) n (omega arith)
+      ∙ run-from f from n
 
   pub getD-run : (f : ℕ → A) (k n j : ℕ) (d : A) → j < n → getD (run f k n) j d ≡ f (k + j)
   unfolding run

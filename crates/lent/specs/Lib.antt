@@ -1,0 +1,2 @@
+pub mod LentPlane
+pub mod Held
