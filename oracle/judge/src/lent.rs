@@ -62,7 +62,7 @@ impl Lent {
     }
 
     /// Number 26: which of several faults there is does not show.
-    fn is_refused(&self) -> bool {
+    pub fn is_refused(&self) -> bool {
         self.is_over_limits() || self.is_uncounted() || self.has_bad_cell() || self.has_bad_part()
     }
 
@@ -121,7 +121,7 @@ impl Lent {
 
     /// The plane of the Rust. Every row starts with a cell too many, and then the first column is
     /// removed: so a row may be left without cells.
-    fn plane(&self) -> Plane {
+    pub fn plane(&self) -> Plane {
         let mut plane = Plane::default();
         let mut place = 0;
         for (row, length) in self.row_lengths.iter().enumerate() {
@@ -133,6 +133,11 @@ impl Lent {
         }
         plane.remove_first_column();
         plane
+    }
+
+    /// The recognizer over the plane.
+    pub fn recognizer(&self) -> Recognizer {
+        recognizer(self.plane())
     }
 }
 
@@ -174,7 +179,7 @@ pub fn judge_plane(lent: &Lent, record_bytes: usize) -> Outcome {
     if lent.is_refused() {
         return refused_plainly(26);
     }
-    let mut recognizer = recognizer(lent.plane());
+    let mut recognizer = lent.recognizer();
     match run(|| recognizer.recognize_table_components()) {
         Ok(Ok(())) => of_components(&recognizer).within(record_bytes),
         Ok(Err(error)) => refusal(&error),

@@ -14,3 +14,4 @@ pub mod record;
 pub mod sheet;
 pub mod sizes;
 pub mod split;
+pub mod upright;

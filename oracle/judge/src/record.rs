@@ -10,7 +10,7 @@ const NAMES: [&str; 7] =
     ["bytes", "policy", "orientation", "inputs", "outputs", "annotations", "rules"];
 
 /// Hit policies in the order of document 01: U A P F R O C C+ C# C< C>.
-fn policy(hit_policy: HitPolicy) -> usize {
+pub fn policy(hit_policy: HitPolicy) -> usize {
     match hit_policy {
         HitPolicy::Unique => 0,
         HitPolicy::Any => 1,

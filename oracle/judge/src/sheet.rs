@@ -10,7 +10,7 @@ use recognizer::plane::Cell;
 use recognizer::{Recognizer, from_unicode};
 
 /// The kind of a cell, in the order of `Cell`.
-fn kind(cell: &Cell) -> u64 {
+pub fn kind(cell: &Cell) -> u64 {
     match cell {
         Cell::Region(..) => 0,
         Cell::VerticalOutputDoubleLine => 1,

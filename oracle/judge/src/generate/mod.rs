@@ -13,6 +13,7 @@ pub mod sheets;
 pub mod splits;
 pub mod texts;
 
+use crate::lent::Lent;
 use crate::line::listed;
 use random::Random;
 
@@ -71,6 +72,11 @@ pub fn generate(kind: Kind, seed: u64, case: u64) -> Vec<u8> {
         Kind::Drawings => line("drawing", &sheets::good(&mut random)),
         Kind::DamagedDrawings => line("drawing", &damage::damaged(&mut random)),
     }
+}
+
+/// A lent plane, as `generate` makes it.
+pub fn lent_plane(seed: u64, case: u64) -> Lent {
+    planes::plane(&mut Random::of(&[Kind::Planes.source() as u64, seed, case]))
 }
 
 fn line(kind: &str, bytes: &[u8]) -> Vec<u8> {

@@ -1,0 +1,2 @@
+-- Laws of what a lent plane states.
+pub mod LentSheetLaws

@@ -1,0 +1,78 @@
+// Functions for programs in C or Rust.
+use lent::Loaded;
+use model::Refusal;
+use plane::Stated;
+use plane::StatedSheet;
+ghost use mathlib.Core.Path.{_≡_};
+ghost use Rattle.model.specs.Policies.{policyNumber, orientationNumber};
+ghost use Rattle.lists.specs.Answer.{refused};
+ghost use Rattle.exports.specs.LentSheet.{lentSheet, answerOf, SheetIn, WorkRoom};
+
+// A refusal's numbers; or n = 0, and a sheet's orientation, policy, rules and rows.
+#[repr(C)]
+pub struct LentAnswer {
+    pub n: u64,
+    pub a: u64,
+    pub b: u64,
+    pub orientation: u32,
+    pub policy: u32,
+    pub rules: u64,
+    pub rows: usize,
+}
+
+fn refusal(r: Refusal) -> LentAnswer
+    ensures { λ x. ⌜ x ≡ answerOf (refused r) ⌝ }
+{
+    let x = model::refusal_numbers(r);
+    LentAnswer {
+        n: x.n,
+        a: x.a,
+        b: x.b,
+        orientation: 0,
+        policy: 0,
+        rules: 0,
+        rows: 0,
+    }
+}
+
+fn sheet(s: Stated) -> LentAnswer
+    ensures { λ x. ⌜ x ≡ record { n = 0; a = 0; b = 0; orientation = orientationNumber (s .orientation); policy = policyNumber (s .policy); rules = s .rules; rows = s .rows } ⌝ }
+{
+    let orientation = s.orientation;
+    let policy = s.policy;
+    LentAnswer {
+        n: 0,
+        a: 0,
+        b: 0,
+        orientation: model::orientation_number(orientation),
+        policy: model::policy_number(policy),
+        rules: s.rules,
+        rows: s.rows,
+    }
+}
+
+// What a lent plane states before the clause rules; the upright sheet goes into `out`.
+#[no_mangle]
+pub extern "C" fn fezandimo_upright(
+    rows: &[u32],
+    kinds: &[u8],
+    regions: &[u32],
+    offsets: &[u32],
+    sizes: &[u32],
+    bytes: &[u8],
+    plane: &mut [u32],
+    spans: &mut [u32],
+    out: &mut [u32],
+) -> LentAnswer
+    requires { ⌜ WorkRoom (now plane) (now spans) (now out) ⌝ }
+    ensures answer { λ r. ⌜ r ≡ answerOf (lentSheet (record { rows = now (rows .entry); kinds = now (kinds .entry); regions = now (regions .entry); offsets = now (offsets .entry); sizes = now (sizes .entry); bytes = now (bytes .entry) })) ⌝ }
+    ensures upright { λ _. ⌜ SheetIn (lentSheet (record { rows = now (rows .entry); kinds = now (kinds .entry); regions = now (regions .entry); offsets = now (offsets .entry); sizes = now (sizes .entry); bytes = now (bytes .entry) })) (now (out .exit)) ⌝ }
+{
+    match lent::load(rows, kinds, regions, offsets, sizes, bytes, plane, spans) {
+        Loaded::Rows(n) => match plane::upright_sheet(plane, n, bytes, spans, offsets.len(), out) {
+            StatedSheet::Upright(s) => sheet(s),
+            StatedSheet::NotStated(r) => refusal(r),
+        },
+        Loaded::NotLoaded(r) => refusal(r),
+    }
+}
