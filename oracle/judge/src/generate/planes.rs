@@ -316,7 +316,7 @@ fn at_limits(random: &mut Random) -> Lent {
     let cut = random.below(4);
     let rows = if cut == 0 { PLANE_ROWS + more } else { random.between(4, PLANE_ROWS) };
     let cells = if cut == 1 { PLANE_CELLS + more } else { random.between(4, PLANE_CELLS) };
-    let regions = if cut == 2 { REGIONS + more } else { random.between(PLANE_ROWS, REGIONS) };
+    let regions = if cut == 2 { REGIONS + more } else { random.between(PLANE_ROWS + 2, REGIONS) };
     let bytes = if cut == 3 { TEXT_BYTES + more } else { random.between(200, 3_000) };
     large(random, rows, cells, regions, bytes)
 }
