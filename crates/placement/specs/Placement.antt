@@ -1,4 +1,4 @@
--- Where the hit policy and the rule numbers stand in a plane: document 01, "Placement and orientation", and plane.rs of the Rust.
+-- Where the hit policy and the rule numbers stand in a plane: document 01, "Placement and upright sheet", and plane.rs of the Rust.
 use mathlib.Core.List.{List, [], _∷_, map}
 use mathlib.Core.Option.{Option, none, some}
 use Prim.Native.Nat.{ℕ, _+_}

@@ -1,4 +1,4 @@
--- The upright sheet that a plane states, with its hit policy and its rule count: document 01, "Placement and orientation".
+-- The upright sheet that a plane states, with its hit policy and its rule count: document 01, "Placement and upright sheet".
 use mathlib.Core.List.{List, [], _∷_}
 use Prim.Native.Nat.{ℕ}
 use Rattle.lists.specs.Answer.{ok, _>>=_}
