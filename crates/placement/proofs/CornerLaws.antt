@@ -6,6 +6,7 @@ use mathlib.Core.Option.{Option, none, some}
 use Prim.Native.Nat.{ℕ, zero, suc, _-_, _<_}
 use native.Mathlib.Omega.{arith}
 use Rattle.lists.specs.Answer.{ok, refused}
+use Rattle.lists.specs.Choose.{onSome}
 use Rattle.lists.specs.Run.{run}
 use Rattle.lists.proofs.AnswerLaws.{refused-ok}
 use Rattle.model.specs.declared.Cell.{Cell}
@@ -15,7 +16,7 @@ use Rattle.model.specs.declared.HitPolicyPlacement.the-variants.{TopLeft, Botto
 use Rattle.model.specs.declared.Refusal.{Refusal}
 use Rattle.model.specs.declared.Refusal.the-variants.{PlaneEmpty, PlaneMalformed}
 use Rattle.cells.specs.Plane.{rowIn, planeIn}
-use Rattle.placement.specs.Placement.{onSome, policyIn, cornerPolicy, bottomLeft, placementOf}
+use Rattle.placement.specs.Placement.{policyIn, cornerPolicy, bottomLeft, placementOf}
 use Rattle.placement.specs.Line.{slotOf}
 use Rattle.placement.proofs.LineLaws.{first-cell, first-row, last-row}
 

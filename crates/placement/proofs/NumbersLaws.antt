@@ -7,13 +7,13 @@ use Prim.Native.Nat.{ℕ, _-_, _<_}
 use lib.Dec.{ltb}
 use lib.ListN.{getD}
 use Rattle.lists.specs.Answer.{ok, refused}
-use Rattle.lists.specs.Choose.{choose}
+use Rattle.lists.specs.Choose.{choose, onSome}
 use Rattle.model.specs.declared.Cell.{Cell}
 use Rattle.model.specs.declared.Cell.the-variants.{VerticalOutputDoubleLine, HorizontalOutputDoubleLine}
 use Rattle.model.specs.declared.Refusal.{Refusal}
 use Rattle.model.specs.declared.RuleNumbersPlacement.the-variants.{LeftBelow, RightAfter, NotPresent}
 use Rattle.cells.specs.Plane.{planeIn}
-use Rattle.placement.specs.Placement.{onSome, countedBehind, numbersLeft, numbersRight, rightOf, ruleNumbersOf}
+use Rattle.placement.specs.Placement.{countedBehind, numbersLeft, numbersRight, rightOf, ruleNumbersOf}
 use Rattle.placement.specs.Line.{lineOf}
 use Rattle.placement.proofs.LineLaws.{last-row, row-line, column-line}
 

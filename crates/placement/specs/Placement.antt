@@ -5,7 +5,7 @@ use Prim.Native.Nat.{ℕ, _+_}
 use lib.Dec.{eqb, ltb}
 use lib.ListN.{drop}
 use Rattle.lists.specs.Answer.{ok, refused, _>>=_}
-use Rattle.lists.specs.Choose.{choose}
+use Rattle.lists.specs.Choose.{choose, onSome}
 use Rattle.model.specs.Cells.{regionOf, sameKind}
 use Rattle.model.specs.Policies.{policyOf}
 use Rattle.model.specs.RuleNumbers.{numberOf}
@@ -19,11 +19,6 @@ use Rattle.model.specs.declared.Refusal.the-variants.{PlaneEmpty, PlaneMalforme
 use Rattle.model.specs.declared.RuleNumbersPlacement.{RuleNumbersPlacement}
 use Rattle.model.specs.declared.RuleNumbersPlacement.the-variants as numbers
 use Rattle.cells.specs.Plane.{Plane}
-
--- what f makes of a, if there is an a, else b
-abbrev pub onSome : {A B : Type 0} → Option A → (A → B) → B → B
-onSome (some a) f b = f a
-onSome none f b = b
 
 -- the first of a list, if there is one
 abbrev pub first : {A : Type 0} → List A → Option A

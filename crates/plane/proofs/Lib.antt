@@ -3,3 +3,4 @@ pub mod RegionsKept
 pub mod TurnedTwice
 pub mod TurnedColumnSheet
 pub mod StatedLaws
+pub mod SomeRules

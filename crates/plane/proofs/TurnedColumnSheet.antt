@@ -11,7 +11,7 @@ use borrow.Author.Tests.{ltb-true}
 use lib.Dec.{ltb}
 use lib.ListN.{length, getD, drop}
 use Rattle.lists.specs.Answer.{ok, refused, _>>=_}
-use Rattle.lists.specs.Choose.{choose}
+use Rattle.lists.specs.Choose.{choose, onSome}
 use Rattle.lists.specs.Run.{run, build}
 use Rattle.lists.specs.Transpose.{width, Rows, Even, column, transpose}
 use Rattle.lists.proofs.AnswerLaws.{then-ok, refused-ok}
@@ -30,7 +30,7 @@ use Rattle.model.specs.declared.RuleNumbersPlacement.{RuleNumbersPlacement}
 use Rattle.model.specs.declared.RuleNumbersPlacement.the-variants as numbers
 use Rattle.cells.specs.Plane.{Plane}
 use Rattle.placement.specs.Orientation.{holdsIn, holds, asRows, asColumns, asCrossTab, orientedBy, orientedOf}
-use Rattle.placement.specs.Placement.{onSome, first, last, policyIn, cornerPolicy, bottomLeft, placementOf, placeBehind, counted, countedBehind, numbersLeft, numbersRight, rightOf, ruleNumbersOf}
+use Rattle.placement.specs.Placement.{first, last, policyIn, cornerPolicy, bottomLeft, placementOf, placeBehind, counted, countedBehind, numbersLeft, numbersRight, rightOf, ruleNumbersOf}
 use Rattle.placement.specs.declared.Oriented.{Oriented}
 use Rattle.turning.specs.Upright.{butLast, wide, turned, pivotOf, uprightOf}
 use Rattle.plane.specs.Sheet.{Sheet, statedSheet, lastFirst}

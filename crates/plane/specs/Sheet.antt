@@ -2,12 +2,13 @@
 use mathlib.Core.List.{List, [], _∷_}
 use Prim.Native.Nat.{ℕ}
 use Rattle.lists.specs.Answer.{ok, _>>=_}
+use Rattle.lists.specs.Choose.{onSome}
 use Rattle.model.specs.Refusals.{Reading}
 use Rattle.model.specs.declared.HitPolicy.{HitPolicy}
 use Rattle.model.specs.declared.Orientation.{Orientation}
 use Rattle.cells.specs.Plane.{Plane}
 use Rattle.placement.specs.Orientation.{orientedOf}
-use Rattle.placement.specs.Placement.{last, onSome}
+use Rattle.placement.specs.Placement.{last}
 use Rattle.turning.specs.Upright.{butLast, uprightOf}
 
 pub record Sheet : Type 0 where

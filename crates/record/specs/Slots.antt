@@ -41,10 +41,14 @@ plainSlots d i (suc n) = choose (ltb 1 (kindAt d i)) 0 (suc (plainSlots d (suc i
 abbrev pub plainTexts : List ℕ → List ℕ → ℕ → ℕ → List Text
 plainTexts s d i c = run (textAt s d) i (plainSlots d i (c - i))
 
+-- no sheet of 64 rows of 64 cells has more slots: 2 + 3 · 63 + 63 · 63
+abbrev pub slotLimit : ℕ
+slotLimit = 4160
+
 -- c slots in a slice; each part lies within the texts
 pub record Parts (s d : List ℕ) (c : ℕ) : Type 0 where
   pub room : 3 * c ≤ length d
-  pub few : c ≤ 4096
+  pub few : c ≤ slotLimit
   pub inside : (i : ℕ) → i < c → kindAt d i ≡ 1 → offsetAt d i + lengthAt d i ≤ length s
 
 -- the texts ts, from slot i of c on, fit a slice of n bytes from the offset o on, behind all slots

@@ -21,7 +21,8 @@ use Rattle.unicode.specs.declared.Checked.the-variants.{Valid, Invalid}
 use Rattle.utils.specs.Commas.{parts}
 use Rattle.utils.specs.Emphasis.{Choice, plain, marked}
 use Rattle.utils.specs.Found.{FoundIn}
-use Rattle.utils.specs.Split.{replaceAll, Values, choiceOf, valuesBy, valuesOf, splitBy, splitOf, scratchOf, answered, Places}
+use Rattle.utils.specs.Split.{replaceAll, Values, choiceOf, valuesBy, valuesOf, splitBy, splitOf, scratchOf, answered, Places, MeasuredOf}
+use Rattle.utils.specs.declared.Measured.the-variants.{Plain, Marked}
 use Rattle.utils.specs.declared.Split.{Split}
 use Rattle.utils.specs.declared.Split.the-variants.{Own, Rewritten, NotSplit}
 use Rattle.utils.proofs.Finding.{between, Sized, first-sized}
@@ -45,6 +46,14 @@ module _ {t : List ℕ} {from to a b : ℕ} {hit : Bool} (i : FoundIn t hit from
   -- the part is not empty, and its bare text is at most as long
   pub part-sizes : hit ≡ true → (0 < length (between t from to)) × (length (between t a b) ≤ length (between t from to))
   part-sizes h = rw (chosen h) at (first-sized 0 (parts t))
+
+  pub measured-plain : hit ≡ false → MeasuredOf Plain t
+  unfolding valuesOf
+  measured-plain h = rw (none-chosen h)
+
+  pub measured-marked : hit ≡ true → {n : ℕ} → n ≡ length (replaceAll 0 (between t from to) (between t a b) t) → MeasuredOf (Marked n a b) t
+  unfolding valuesOf
+  measured-marked h e = (e ∙ rw (chosen h), rw (chosen h), i .ordered, omega (arith, i .high, i .inside))
 
   module _ (d : List ℕ) (v : checked t ≡ Valid) where
     pub answer-own : hit ≡ false → Promised Own t d d

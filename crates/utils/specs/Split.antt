@@ -13,6 +13,8 @@ use Rattle.model.specs.declared.Refusal.the-variants.{InvalidUtf8, OutputSliceS
 use Rattle.unicode.specs.Utf8.{checked, onText}
 use Rattle.utils.specs.Commas.{parts}
 use Rattle.utils.specs.Emphasis.{Choice, plain, marked, startsWith, firstMarked}
+use Rattle.utils.specs.declared.Measured.{Measured}
+use Rattle.utils.specs.declared.Measured.the-variants.{Plain, Marked}
 use Rattle.utils.specs.declared.Split.{Split}
 use Rattle.utils.specs.declared.Split.the-variants.{Own, Rewritten, NotSplit}
 
@@ -81,3 +83,9 @@ abbrev pub allowedIn : Split → List ℕ → List ℕ → List ℕ
 allowedIn Own t d = t
 allowedIn (Rewritten n from to) t d = take n d
 allowedIn (NotSplit r) t d = t
+
+-- what is measured of the values of a text: they are the text itself; or n bytes of allowed values, and a part of the text is the default
+abbrev pub MeasuredOf : Measured → List ℕ → Type 0
+MeasuredOf Plain t = valuesOf t ≡ record { allowed = t; default = none }
+MeasuredOf (Marked n from to) t =
+    (n ≡ length (valuesOf t .allowed)) × (valuesOf t .default ≡ some (take (to - from) (drop from t))) × (from ≤ to) × (to ≤ length t)

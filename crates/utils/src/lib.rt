@@ -9,7 +9,7 @@ ghost use lib.Dec.{leb, ltb};
 ghost use lib.ListN.{length, take, drop, set};
 ghost use Rattle.lists.specs.Put.{put};
 ghost use Rattle.utils.specs.Emphasis.{startsWith, endsWith, stripStart, stripEnd, strip, marks, emphasised, marked};
-ghost use Rattle.utils.specs.Split.{replaceAll, splitOf, scratchOf, answered, Places, allowedIn};
+ghost use Rattle.utils.specs.Split.{replaceAll, splitOf, scratchOf, answered, Places, allowedIn, MeasuredOf};
 ghost use Rattle.utils.specs.Found.{PartEnd, MarkOf, FoundIn};
 ghost use Rattle.utils.specs.Periods.{Knows, Safe, Periods, FirstPlace};
 
@@ -333,6 +333,30 @@ fn rewrite(s: &[u8], p: &[u8], q: &[u8], t: &[usize], n: usize, out: &mut [u8])
         at += q.len();
         i = r + p.len();
     }
+}
+
+// What a text's values come to: the text itself; or so many bytes of rewritten text, and a default that stands in the
+// text from one place up to another.
+pub enum Measured {
+    Plain,
+    Marked(usize, usize, usize),
+}
+
+// The value split of a text, measured and not written.
+pub fn measure_values(text: &[u8]) -> Measured
+    ensures { λ r. ⌜ MeasuredOf r (now (text .entry)) ⌝ }
+{
+    let f = first_marked(text);
+    let from = f.from;
+    let to = f.to;
+    let a = f.a;
+    let b = f.b;
+    if f.hit {
+        let mut t = [0usize; 80];
+        let k = periods_of(&text[from..to], &mut t);
+        return Measured::Marked(measure(text, &text[from..to], &text[a..b], &t, k), a, b);
+    }
+    Measured::Plain
 }
 
 // What the split answers: the own text is the allowed values and there is no default; or so many bytes of the

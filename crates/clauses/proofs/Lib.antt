@@ -1,0 +1,14 @@
+-- Laws of the clause rules.
+pub mod CellLaws
+mod TestLaws
+mod MetLaws
+mod AllowedLaws
+mod PassLaws
+mod SpotLaws
+mod ShapeLaws
+pub mod ReadingsApart
+pub mod Apart
+pub mod OnlyTwoSizes
+pub mod ClausesApart
+pub mod SpelledStated
+pub mod Samples

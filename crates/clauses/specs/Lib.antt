@@ -1,0 +1,9 @@
+pub mod Readings
+pub mod SheetCells
+pub mod Clauses
+pub mod Sizes
+pub mod Stated
+pub mod Shape
+pub mod Spelled
+pub mod Met
+pub mod Told
