@@ -1,13 +1,13 @@
 -- The cells of a sheet in a slice, and their regions.
-use mathlib.Core.Path.{_≡_, sym, ap, _∙_}
+use mathlib.Core.Path.{_≡_, ap, _∙_}
 use mathlib.Core.List.{List, []}
-use mathlib.Core.Option.{Option, none, some}
+use mathlib.Core.Option.{Option}
 use Prim.Native.Nat.{ℕ, _≤_, _<_}
 use native.Mathlib.Omega.{arith}
 use lib.ListN.{length, getD}
 use borrow.Author.Tests.{lt-ltb, le-ltb}
 use Rattle.lists.specs.Answer.{ok, refused}
-use Rattle.lists.specs.Choose.{choose, onSome}
+use Rattle.lists.specs.Choose.{onSome}
 use Rattle.lists.proofs.RunLaws.{getD-build, getD-run-out}
 use Rattle.model.specs.Cells.{regionOf}
 use Rattle.model.specs.declared.Cell.{Cell}

@@ -1,9 +1,8 @@
 -- `clauses::region_at` meets its contract.
-use mathlib.Core.Path.{sym, _∙_}
+use mathlib.Core.Path.{sym}
 use mathlib.Core.Option.{none, some}
 use native.Mathlib.Omega.{arith}
 use borrow.Author.Needs.{needs}
-use Rattle.model.specs.Cells.{regionOf}
 use Rattle.clauses.proofs.CellLaws.{region-below, region-right, region-by}
 use Rattle.clauses.proofs.region_at.Statement.{statement}
 use Rattle.clauses.proofs.region_at.Tie as tie

@@ -1,0 +1,2 @@
+-- Laws of what a plane states.
+mod Recognizing

@@ -1,0 +1,2 @@
+pub mod StatedPolicy
+pub mod Told

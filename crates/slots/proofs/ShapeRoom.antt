@@ -1,0 +1,47 @@
+-- The slots that a shape takes: all of them have room.
+use mathlib.Core.Path.{_≡_}
+use Prim.Native.Nat.{ℕ, _+_, _*_, _≤_}
+use mathlib.Core.List.{List}
+use native.Mathlib.Nat.{mul-le-mul-right}
+use native.Mathlib.Omega.{arith}
+use lib.ListN.{length, length-append}
+use Rattle.lists.proofs.RunLaws.{length-run}
+use Rattle.model.specs.Limits.{planeRows}
+use Rattle.cells.specs.Plane.{Plane}
+use Rattle.record.specs.Slots.{slotLimit}
+use Rattle.clauses.specs.Spelled.{entryTexts}
+use Rattle.clauses.specs.Told.{ShapeFits}
+use Rattle.clauses.specs.declared.Shape.{Shape}
+use Rattle.slots.specs.Spelt.{Room}
+
+-- the slots of a rule; of all rules, and of what stands before them too
+module _ (s : Shape) where
+  abbrev pub forRule : ℕ
+  forRule = s .inputs + s .outputs + s .notes .count
+
+  abbrev pub forRules : ℕ → ℕ
+  forRules rules = rules * forRule
+
+  abbrev pub fromNotes : ℕ → ℕ
+  fromNotes rules = s .notes .count + forRules rules
+
+  abbrev pub fromOutputs : ℕ → ℕ
+  fromOutputs rules = 3 * s .outputs + fromNotes rules
+
+  abbrev pub fromInputs : ℕ → ℕ
+  fromInputs rules = 2 * s .inputs + fromOutputs rules
+
+pub fewer-rules : {s : Shape} {rows : ℕ} (m n : ℕ) → ShapeFits s rows n → m ≤ n → ShapeFits s rows m
+fewer-rules m n f h = record { columns = f .columns; behind = f .behind; height = omega (arith, f .height); notes = f .notes }
+
+-- 2 + 3 · 63 + 63 · 63 at most
+pub room-all : {s : Shape} {rows rules : ℕ} {d : List ℕ} → ShapeFits s rows rules → rows ≤ planeRows → 3 * slotLimit ≤ length d
+    → Room (record { slot = 1; bytes = 0 }) (1 + fromInputs s rules) d
+room-all {s} {rows} {rules} {d} f h l =
+    let k : rules ≤ 63 = omega (arith, f .height) in
+    let m : rules * forRule s ≤ 63 * forRule s = mul-le-mul-right (forRule s) k in
+    let n : 1 + (1 + fromInputs s rules) ≤ slotLimit = omega (arith, f .columns) in
+    record { slots = omega arith; few = n; light = omega arith }
+
+pub entry-length : (text : ℕ → List ℕ) (P : Plane) (s : Shape) (r : ℕ) → length (entryTexts text P s r) ≡ forRule s
+entry-length text P s r = simp (length-append, length-run) (omega arith)

@@ -1,0 +1,64 @@
+-- `slots::put_output` meets its contract.
+use Rattle.slots.proofs.ValueTexts.{valueTexts}
+use Rattle.slots.proofs.SpeltLaws.{spelt-then, spelt-as, optional-on, room-next}
+use Rattle.lists.proofs.Tests.{choose-off}
+use mathlib.Core.Option.{none}
+use mathlib.Core.Path.{refl, sym, ap}
+use native.Mathlib.Omega.{arith}
+use borrow.Author.Needs.{needs}
+use Rattle.slots.proofs.put_output.Statement.{statement}
+use Rattle.slots.proofs.put_output.Tie as tie
+
+put-name-requires : tie.Need-put-name-requires
+put-name-requires c κs = search needs
+
+above-requires : tie.Need-above-requires
+above-requires c κs = search needs
+
+add-part-at : tie.Need-add-part-at
+add-part-at c = search needs
+
+add-part-at-2 : tie.Need-add-part-at-2
+add-part-at-2 c = search needs
+
+part-at-requires : tie.Need-part-at-requires
+part-at-requires c κs = search needs
+
+put-values-requires : tie.Need-put-values-requires
+put-values-requires c κs =
+    (room-next 3 1 2 (c .before .before .before .before .before .before .before .before .before .before .before .before .before .before .pre .1) (c .before .before .before .before .before .before .before .before .put-name .ensures) refl (omega arith) (c .before .before .before .before .before .before .before .before .put-name .kept .1 .1 .1 .1 .1 .0), c .before .part-at .ensures .1)
+
+same-length : tie.Need-same-length
+same-length c = search needs
+
+returns : tie.Need-returns
+returns c =
+    spelt-then (c .before .before .before .before .before .before .before .before .before .before .before .put-name .ensures)
+    (spelt-as (c .before .before .put-values .ensures) (ap valueTexts (optional-on none (rw (c .before .before .before .before .before .before .above .ensures) at (c .before .before .before .before .part-at .ensures .0)) (c .before .before .before .before .before .before .before .if1 .taken))))
+
+put-no-values-requires : tie.Need-put-no-values-requires
+put-no-values-requires c κs = room-next 3 1 2 (c .before .before .before .before .before .before .before .before .before .before .before .pre .1) (c .before .before .before .before .before .put-name .ensures) refl (omega arith) (c .before .before .before .before .before .put-name .kept .1 .1 .1 .1 .1 .0)
+
+same-length-2 : tie.Need-same-length-2
+same-length-2 c = search needs
+
+returns-2 : tie.Need-returns-2
+returns-2 c =
+    spelt-then (c .before .before .before .before .before .before .before .before .put-name .ensures)
+    (spelt-as (c .before .before .put-no-values .ensures (c .before .before .before .before .before .before .before .before .before .before .before .before .before .before .args .bytes .now)) (ap valueTexts (sym (choose-off _ _ none (c .before .before .before .before .if1 .left)))))
+
+pub put-output-spec : {M : Type 1} → statement M
+put-output-spec =
+    tie.close
+    (tie.spec
+    put-name-requires
+    above-requires
+    add-part-at
+    add-part-at-2
+    part-at-requires
+    put-values-requires
+    same-length
+    returns
+    put-no-values-requires
+    same-length-2
+    returns-2)

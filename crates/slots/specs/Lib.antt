@@ -1,0 +1,2 @@
+pub mod SlotTexts
+pub mod Spelt
