@@ -3,7 +3,8 @@ use mathlib.Core.Path.{_≡_, sym, subst}
 use mathlib.Core.List.{List}
 use Prim.Native.Nat.{ℕ, _+_, _*_, _≤_, _<_}
 use native.Mathlib.Omega.{arith}
-use lib.ListN.{length}
+use lib.ListN.{length, take}
+use lib.Seq.{length-take-le}
 use Rattle.lists.specs.Answer.{ok, refused, _>>=_}
 use Rattle.lists.specs.Picture.{Picture}
 use Rattle.lists.proofs.RunLaws.{length-run}
@@ -39,11 +40,11 @@ module _ (o : Outline) (text thin grid : Picture) (w h : ℕ) where
 
 -- a plane of `count` regions
 pub plane-held : (o : Outline) (grid : Picture) (w h n count used : ℕ) (rects d bytes spans : List ℕ) → ok (planeIn d n) ≡ planeOf o (rectsOf rects count) grid w h
-    → PlaneFits d n → UsedIn (Read count used) bytes spans → textBytes ≤ length bytes → count * 2 ≤ length spans → Held d n bytes spans count
+    → PlaneFits d n → UsedIn (Read count used) bytes spans → textBytes ≤ length bytes → count * 2 ≤ length spans → Held d n (take textBytes bytes) spans count
 plane-held o grid w h n count used rects d bytes spans e f u b s =
     record {
       fits = f;
       regions = among-regions d n count (subst (λ (k : ℕ). Among k (planeIn d n)) (length-run (rectAt rects) 0 count) (plane-among o (frameOf kind.grid grid w h) (rectsOf rects count) grid w h (planeIn d n) (sym e)));
       twoEach = s;
-      inside = λ k l. omega (arith, u .1 .1 .1 k l, u .1 .1 .0);
+      inside = λ k l. omega (arith, u .1 .1 .1 k l, u .1 .1 .0, length-take-le textBytes bytes b);
     }

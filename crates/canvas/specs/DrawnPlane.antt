@@ -1,10 +1,10 @@
 -- The plane that a drawing states, with the texts of its regions: document 01, "Regions and plane".
 use mathlib.Core.List.{List}
 use Prim.Native.Nat.{ℕ, _≤_}
-use lib.ListN.{length}
+use lib.ListN.{length, take}
 use Rattle.lists.specs.Answer.{ok, refused, _>>=_}
 use Rattle.lists.specs.Picture.{Picture}
-use Rattle.model.specs.Limits.{planeSize}
+use Rattle.model.specs.Limits.{planeSize, textBytes}
 use Rattle.model.specs.Refusals.{Reading}
 use Rattle.cells.specs.Held.{Held}
 use Rattle.cells.specs.Plane.{TextPlane, planeIn}
@@ -28,8 +28,9 @@ abbrev pub planeRead : PlaneRead → List ℕ → List ℕ → List ℕ → Read
 planeRead (Rows n count) plane bytes spans = ok (record { plane = planeIn plane n; texts = textsIn bytes spans count })
 planeRead (NoPlane r) plane bytes spans = refused r
 
+-- an answer's texts lie in the first 61,440 bytes
 abbrev pub PlaneHeld : PlaneRead → List ℕ → List ℕ → List ℕ → Type 0
-PlaneHeld (Rows n count) plane bytes spans = Held plane n bytes spans count
+PlaneHeld (Rows n count) plane bytes spans = Held plane n (take textBytes bytes) spans count
 PlaneHeld (NoPlane r) plane bytes spans = Unit {0}
 
 -- the slices that reading a plane is handed

@@ -1,2 +1,2 @@
 -- Laws of what a lent plane states.
-pub mod LentSheetLaws
+pub mod AnswerLaws

@@ -1,1 +1,1 @@
-pub mod LentSheet
+pub mod Answers

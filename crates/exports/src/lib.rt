@@ -1,12 +1,12 @@
 // Functions for programs in C or Rust.
-use lent::Loaded;
 use model::Refusal;
 use plane::Stated;
 use plane::StatedSheet;
 ghost use mathlib.Core.Path.{_≡_};
 ghost use Rattle.model.specs.Policies.{policyNumber, orientationNumber};
 ghost use Rattle.lists.specs.Answer.{refused};
-ghost use Rattle.exports.specs.LentSheet.{lentSheet, answerOf, SheetIn, WorkRoom};
+ghost use Rattle.plane.specs.LentSheet.{lentSheet, WorkRoom};
+ghost use Rattle.exports.specs.Answers.{answerOf, SheetIn};
 
 // A refusal's numbers; or n = 0, and a sheet's orientation, policy, rules and rows.
 #[repr(C)]
@@ -68,11 +68,18 @@ pub extern "C" fn fezandimo_upright(
     ensures answer { λ r. ⌜ r ≡ answerOf (lentSheet (record { rows = now (rows .entry); kinds = now (kinds .entry); regions = now (regions .entry); offsets = now (offsets .entry); sizes = now (sizes .entry); bytes = now (bytes .entry) })) ⌝ }
     ensures upright { λ _. ⌜ SheetIn (lentSheet (record { rows = now (rows .entry); kinds = now (kinds .entry); regions = now (regions .entry); offsets = now (offsets .entry); sizes = now (sizes .entry); bytes = now (bytes .entry) })) (now (out .exit)) ⌝ }
 {
-    match lent::load(rows, kinds, regions, offsets, sizes, bytes, plane, spans) {
-        Loaded::Rows(n) => match plane::upright_sheet(plane, n, bytes, spans, offsets.len(), out) {
-            StatedSheet::Upright(s) => sheet(s),
-            StatedSheet::NotStated(r) => refusal(r),
-        },
-        Loaded::NotLoaded(r) => refusal(r),
+    match plane::lent_sheet(
+        rows,
+        kinds,
+        regions,
+        offsets,
+        sizes,
+        bytes,
+        plane,
+        spans,
+        out,
+    ) {
+        StatedSheet::Upright(s) => sheet(s),
+        StatedSheet::NotStated(r) => refusal(r),
     }
 }

@@ -4,3 +4,4 @@ pub mod TurnedTwice
 pub mod TurnedColumnSheet
 pub mod StatedLaws
 pub mod SomeRules
+pub mod LentSheetLaws

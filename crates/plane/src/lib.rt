@@ -1,4 +1,5 @@
-// The upright sheet of a plane, with its hit policy and its rule count.
+// The upright sheet of a plane, or of a lent one, with its hit policy and its rule count.
+use lent::Loaded;
 use model::HitPolicy;
 use model::Orientation;
 use model::Refusal;
@@ -11,6 +12,7 @@ ghost use Rattle.model.specs.Limits.{planeSize};
 ghost use Rattle.cells.specs.Held.{Held};
 ghost use Rattle.cells.specs.Plane.{planeIn};
 ghost use Rattle.cells.specs.Spans.{textIn};
+ghost use Rattle.plane.specs.LentSheet.{lentSheet, WorkRoom};
 ghost use Rattle.plane.specs.Sheet.{statedSheet};
 ghost use Rattle.plane.specs.Stated.{statedIn, StatedHeld};
 
@@ -54,5 +56,27 @@ pub fn upright_sheet(
             rows,
         }),
         Turned::NotTurned(r) => StatedSheet::NotStated(r),
+    }
+}
+
+// What a lent plane states before the clause rules; the upright sheet goes into `out`.
+pub fn lent_sheet(
+    rows: &[u32],
+    kinds: &[u8],
+    regions: &[u32],
+    offsets: &[u32],
+    sizes: &[u32],
+    bytes: &[u8],
+    plane: &mut [u32],
+    spans: &mut [u32],
+    out: &mut [u32],
+) -> StatedSheet
+    requires { ⌜ WorkRoom (now plane) (now spans) (now out) ⌝ }
+    ensures sheet { λ r. ⌜ statedIn r (now (out .exit)) ≡ lentSheet (record { rows = now (rows .entry); kinds = now (kinds .entry); regions = now (regions .entry); offsets = now (offsets .entry); sizes = now (sizes .entry); bytes = now (bytes .entry) }) ⌝ }
+    ensures held { λ r. ⌜ StatedHeld r (now (out .exit)) (now (bytes .entry)) (now (spans .exit)) (length (now (offsets .entry))) ⌝ }
+{
+    match lent::load(rows, kinds, regions, offsets, sizes, bytes, plane, spans) {
+        Loaded::Rows(n) => upright_sheet(plane, n, bytes, spans, offsets.len(), out),
+        Loaded::NotLoaded(r) => StatedSheet::NotStated(r),
     }
 }

@@ -3,3 +3,4 @@ pub mod DecimalLaws
 pub mod WrittenLaws
 pub mod LayerLaws
 pub mod RegionLaws
+pub mod PlaneLaws

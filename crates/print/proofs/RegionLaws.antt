@@ -17,8 +17,8 @@ use Rattle.cells.specs.Spans.{offsetAt, lengthAt, textAt, textsIn}
 use Rattle.texts.proofs.BuildLaws.{build-next, grows}
 use Rattle.texts.proofs.TextsLaws.{length-snoc}
 use Rattle.print.specs.Decimal.{Written}
-use Rattle.print.specs.Lines.{lineFeed}
-use Rattle.print.specs.Drawings.{regionLine, regionLines, countLine, countedLines, regionBytes, nameWord, noNameLine, nameLine, Texts, Regions}
+use Rattle.print.specs.Lines.{lineFeed, countLine}
+use Rattle.print.specs.Drawings.{regionLine, regionLines, regionsWord, countedLines, regionBytes, nameWord, noNameLine, nameLine, Texts, Regions}
 use Rattle.print.proofs.WrittenLaws.{written-nil, written-then, written-within, written-as}
 
 -- one region more
@@ -99,14 +99,14 @@ module _ {o₀ : List ℕ} {at : ℕ} {rects bytes spans : List ℕ} {n : ℕ} {
 
 -- all regions are written
 pub listing-end : {o₀ : List ℕ} {at : ℕ} {rects bytes spans : List ℕ} {n : ℕ} {o : List ℕ} {m k : ℕ} {d : List ℕ} {a : ℕ} → Listing o₀ at rects bytes spans n o m k
-    → Regions rects bytes spans n → n ≤ k → Written d o₀ a (countLine n) 29 at → at ≤ length d
+    → Regions rects bytes spans n → n ≤ k → Written d o₀ a (countLine regionsWord n) 29 at → at ≤ length d
     → Written d o a (countedLines (rectsOf rects n) (textsIn bytes spans n)) regionBytes m
 unfolding countedLines
 listing-end {o₀} {at} {rects} {bytes} {spans} {n} {o} {m} {k} {d} {a} q g h u l =
     let b = q .along in
     let z : k ≡ n = omega arith in
     let s : size bytes spans k ≤ textBytes = rw z (g .texts .total) in
-    let x : countLine n ++ regionLines (rectsOf rects k) (textsIn bytes spans k) ≡ countLine (length (rectsOf rects n)) ++ regionLines (rectsOf rects n) (textsIn bytes spans n) =
+    let x : countLine regionsWord n ++ regionLines (rectsOf rects k) (textsIn bytes spans k) ≡ countLine regionsWord (length (rectsOf rects n)) ++ regionLines (rectsOf rects n) (textsIn bytes spans n) =
     rw (z, length-run (rectAt rects) 0 n) in
     written-within (written-as (written-then u (q .written) l) x) (omega (arith, g .count))
 

@@ -42,14 +42,18 @@ written-number out d o at n k h f g p =
       short = omega arith;
     }
 
+-- a blank and a number
+pub written-behind : {d o : List ℕ} {at r : ℕ} (n : ℕ) → at < length d → Written (set d at 0x20) o (at + 1) (decimal n) 20 r → Written d o at (0x20 ∷ decimal n) 21 r
+written-behind {d} {o} {at} {r} n k w =
+    let u : Written d (set d at 0x20) at (0x20 ∷ []) 1 (at + 1) = record { same = put-one d at 0x20 k; ends = refl; short = omega arith } in
+    written-then u w (omega arith)
+
 -- a blank and a byte
-pub written-byte : {d o : List ℕ} {at b r : ℕ} → b < 256 → at < length d → Written (set d at 0x20) o (at + 1) (decimal b) 20 r → Written d o at (0x20 ∷ decimal b) 4 r
-written-byte {d} {o} {at} {b} {r} h k w =
+pub written-byte : {d o : List ℕ} {at b r : ℕ} → b < 256 → Written d o at (0x20 ∷ decimal b) 21 r → Written d o at (0x20 ∷ decimal b) 4 r
+written-byte {d} {o} {at} {b} {r} h w =
     let l : length (decimal b) ≡ width b = length-decimal b in
     let m = width-byte b h in
-    let u : Written d (set d at 0x20) at (0x20 ∷ []) 1 (at + 1) = record { same = put-one d at 0x20 k; ends = refl; short = omega arith } in
-    let t = written-then u w (omega arith) in
-    record { same = t .same; ends = t .ends; short = omega (arith, w .ends) }
+    record { same = w .same; ends = w .ends; short = omega (arith, w .ends) }
 
 -- the first i bytes of a text are written behind the n₀ bytes of o₀
 pub record Listing (o₀ : List ℕ) (n₀ : ℕ) (text o : List ℕ) (n i : ℕ) : Type 0 where

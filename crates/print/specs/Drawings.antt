@@ -10,7 +10,7 @@ use Rattle.texts.specs.RegionText.{packed}
 use Rattle.cells.specs.Spans.{offsetAt, lengthAt, textsIn}
 use Rattle.unicode.specs.Utf8.{encode}
 use Rattle.print.specs.Decimal.{decimal}
-use Rattle.print.specs.Lines.{blank, lineFeed}
+use Rattle.print.specs.Lines.{blank, lineFeed, countLine}
 
 -- the first n characters of row y, in UTF-8
 unfoldable pub rowTo : Picture → ℕ → ℕ → List ℕ
@@ -80,13 +80,9 @@ regionLines (r ∷ rs) (t ∷ ts) = regionLine r t ++ regionLines rs ts
 abbrev pub regionsWord : List ℕ
 regionsWord = 0x72 ∷ 0x65 ∷ 0x67 ∷ 0x69 ∷ 0x6F ∷ 0x6E ∷ 0x73 ∷ 0x20 ∷ []
 
--- regions COUNT
-unfoldable pub countLine : ℕ → List ℕ
-countLine n = regionsWord ++ (decimal n ++ (lineFeed ∷ []))
-
 -- the regions behind their count
 unfoldable pub countedLines : List Rect → List (List ℕ) → List ℕ
-countedLines rs ts = countLine (length rs) ++ regionLines rs ts
+countedLines rs ts = countLine regionsWord (length rs) ++ regionLines rs ts
 
 -- room for them: 1,024 lines of four numbers, and the texts
 abbrev pub regionBytes : ℕ

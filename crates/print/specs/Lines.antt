@@ -1,4 +1,4 @@
--- Lines that the judge prints: the values of a split, and a refusal.
+-- Lines that the judge prints: the values of a split, a refusal, a count.
 use mathlib.Core.List.{List, [], _∷_, _++_}
 use Prim.Native.Nat.{ℕ}
 use Rattle.model.specs.declared.Numbers.{Numbers}
@@ -26,6 +26,14 @@ refusedWord = 0x72 ∷ 0x65 ∷ 0x66 ∷ 0x75 ∷ 0x73 ∷ 0x65 ∷ 0x64 ∷ 0x2
 unfoldable pub valuesLine : List ℕ → List ℕ → List ℕ
 valuesLine allowed bare = valuesWord ++ (listed allowed ++ (defaultWord ++ (listed bare ++ (lineFeed ∷ []))))
 
+-- a word and three numbers, a blank between two
+unfoldable pub threeLine : List ℕ → ℕ → ℕ → ℕ → List ℕ
+threeLine word a b c = word ++ (decimal a ++ ((0x20 ∷ []) ++ (decimal b ++ ((0x20 ∷ []) ++ (decimal c ++ (lineFeed ∷ []))))))
+
 -- refused N A B
-unfoldable pub refusedLine : Numbers → List ℕ
-refusedLine x = refusedWord ++ (decimal (x .n) ++ ((0x20 ∷ []) ++ (decimal (x .a) ++ ((0x20 ∷ []) ++ (decimal (x .b) ++ (lineFeed ∷ []))))))
+abbrev pub refusedLine : Numbers → List ℕ
+refusedLine x = threeLine refusedWord (x .n) (x .a) (x .b)
+
+-- a word and a count
+unfoldable pub countLine : List ℕ → ℕ → List ℕ
+countLine word n = word ++ (decimal n ++ (lineFeed ∷ []))

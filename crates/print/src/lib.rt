@@ -1,16 +1,20 @@
-// The lines that the judge of the Rust prints, into a slice of bytes: numbers, texts, refusals, layers, regions.
+// The lines that the judge of the Rust prints, into a slice of bytes: numbers, texts, refusals, layers, regions, planes.
 use model::Refusal;
 ghost use mathlib.Core.List.{[], _∷_, _++_};
 ghost use Prim.Native.Nat.{_+_, _*_, _≤_, _<_};
 ghost use lib.ListN.{length, getD};
 ghost use Rattle.lists.specs.Picture.{canvas};
+ghost use Rattle.model.specs.Cells.{cellNumber};
+ghost use Rattle.model.specs.Limits.{planeRows, planeCells, planeSize};
 ghost use Rattle.model.specs.Refusals.{numbers};
 ghost use Rattle.regions.specs.Rects.{rectAt, rectsOf};
 ghost use Rattle.texts.specs.RegionText.{packed};
+ghost use Rattle.cells.specs.Plane.{cellAt, rowIn, planeIn, PlaneFits};
 ghost use Rattle.cells.specs.Spans.{offsetAt, lengthAt, textAt, textsIn};
 ghost use Rattle.print.specs.Decimal.{decimal, listed, Written};
-ghost use Rattle.print.specs.Lines.{lineFeed, valuesLine, refusedLine};
-ghost use Rattle.print.specs.Drawings.{rowTo, rowsTo, layerLines, layersLines, layersBytes, rowBytes, Layer, numberWord, rectWords, regionLine, countLine, countedLines, regionBytes, nameLine, nameBytes, Texts, Regions};
+ghost use Rattle.print.specs.Lines.{lineFeed, valuesLine, threeLine, refusedLine, countLine};
+ghost use Rattle.print.specs.Planes.{cellsLine, planeLines, cellsBytes, planeBytes, uprightLines, uprightBytes};
+ghost use Rattle.print.specs.Drawings.{rowTo, rowsTo, layerLines, layersLines, layersBytes, rowBytes, Layer, numberWord, rectWords, regionLine, countedLines, regionBytes, nameLine, nameBytes, Texts, Regions};
 
 // A number in decimal, from index `at` on.
 pub fn put_number(out: &mut [u8], at: usize, n: u64) -> usize
@@ -23,13 +27,21 @@ pub fn put_number(out: &mut [u8], at: usize, n: u64) -> usize
     at + k
 }
 
+// A blank and a number.
+fn put_behind(out: &mut [u8], at: usize, n: u64) -> usize
+    requires { ⌜ at + 21 ≤ length (now out) ⌝ }
+    ensures { λ r. ⌜ Written (now (out .entry)) (now (out .exit)) at (0x20 ∷ decimal n) 21 r ⌝ }
+{
+    out[at] = 0x20;
+    put_number(out, at + 1, n)
+}
+
 // A blank and a byte in decimal.
 fn put_byte(out: &mut [u8], at: usize, b: u8) -> usize
     requires { ⌜ at + 21 ≤ length (now out) ⌝ }
     ensures { λ r. ⌜ Written (now (out .entry)) (now (out .exit)) at (0x20 ∷ decimal b) 4 r ⌝ }
 {
-    out[at] = 0x20;
-    put_number(out, at + 1, b as u64)
+    put_behind(out, at, b as u64)
 }
 
 // A text as its count of bytes and the bytes.
@@ -67,19 +79,27 @@ pub fn put_values(out: &mut [u8], at: usize, allowed: &[u8], bare: &[u8]) -> usi
     put_word(out, d, b"\n")
 }
 
+// Three numbers behind a word.
+fn put_three(out: &mut [u8], at: usize, word: &[u8], x: u64, y: u64, z: u64) -> usize
+    requires { ⌜ at + length (now word) + 63 ≤ length (now out) ⌝ }
+    ensures { λ r. ⌜ Written (now (out .entry)) (now (out .exit)) at (threeLine (now (word .entry)) x y z) (length (now (word .entry)) + 63) r ⌝ }
+{
+    let a = put_word(out, at, word);
+    let b = put_number(out, a, x);
+    let c = put_word(out, b, b" ");
+    let d = put_number(out, c, y);
+    let e = put_word(out, d, b" ");
+    let f = put_number(out, e, z);
+    put_word(out, f, b"\n")
+}
+
 // A refusal: N, A and B.
 pub fn put_refusal(out: &mut [u8], at: usize, r: Refusal) -> usize
     requires { ⌜ at + 100 ≤ length (now out) ⌝ }
     ensures { λ e. ⌜ Written (now (out .entry)) (now (out .exit)) at (refusedLine (numbers r)) 100 e ⌝ }
 {
     let x = model::refusal_numbers(r);
-    let a = put_word(out, at, b"refused ");
-    let b = put_number(out, a, x.n);
-    let c = put_word(out, b, b" ");
-    let d = put_number(out, c, x.a);
-    let e = put_word(out, d, b" ");
-    let f = put_number(out, e, x.b);
-    put_word(out, f, b"\n")
+    put_three(out, at, b"refused ", x.n, x.a, x.b)
 }
 
 // Row y of a layer, and a line feed.
@@ -184,12 +204,12 @@ fn put_region(
     put_text(out, a, bytes, spans, k)
 }
 
-// The count of regions.
-fn put_count(out: &mut [u8], at: usize, n: usize) -> usize
-    requires { ⌜ at + 29 ≤ length (now out) ⌝ }
-    ensures { λ r. ⌜ Written (now (out .entry)) (now (out .exit)) at (countLine n) 29 r ⌝ }
+// A count behind a word.
+fn put_count(out: &mut [u8], at: usize, word: &[u8], n: usize) -> usize
+    requires { ⌜ at + length (now word) + 21 ≤ length (now out) ⌝ }
+    ensures { λ r. ⌜ Written (now (out .entry)) (now (out .exit)) at (countLine (now (word .entry)) n) (length (now (word .entry)) + 21) r ⌝ }
 {
-    let a = put_word(out, at, b"regions ");
+    let a = put_word(out, at, word);
     let b = put_number(out, a, n as u64);
     put_word(out, b, b"\n")
 }
@@ -206,7 +226,7 @@ pub fn put_regions(
     requires { ⌜ (at + regionBytes ≤ length (now out)) × Regions (now rects) (now bytes) (now spans) n ⌝ }
     ensures { λ r. ⌜ Written (now (out .entry)) (now (out .exit)) at (countedLines (rectsOf (now (rects .entry)) n) (textsIn (now (bytes .entry)) (now (spans .entry)) n)) regionBytes r ⌝ }
 {
-    let mut m = put_count(out, at, n);
+    let mut m = put_count(out, at, b"regions ", n);
     let mut k = 0;
     while k < n {
         m = put_region(out, m, rects, bytes, spans, k);
@@ -235,4 +255,66 @@ pub fn put_name(
     }
     let a = put_word(out, at, b"name ");
     put_text(out, a, bytes, spans, 0)
+}
+
+// A blank and the number of cell i of a row.
+fn put_cell(out: &mut [u8], at: usize, plane: &[u32], row: usize, i: usize) -> usize
+    requires { ⌜ (at + 21 ≤ length (now out)) × (row < planeRows) × (i < planeCells) × (planeSize ≤ length (now plane)) ⌝ }
+    ensures { λ r. ⌜ Written (now (out .entry)) (now (out .exit)) at (0x20 ∷ decimal (cellNumber (cellAt (now (plane .entry)) row i))) 21 r ⌝ }
+{
+    let c = cells::cell_at(plane, row, i);
+    put_behind(out, at, model::cell_number(c) as u64)
+}
+
+// The cells of a row, and a line feed.
+fn put_cells(out: &mut [u8], at: usize, plane: &[u32], row: usize) -> usize
+    requires { ⌜ (at + cellsBytes ≤ length (now out)) × PlaneFits (now plane) (row + 1) ⌝ }
+    ensures { λ r. ⌜ Written (now (out .entry)) (now (out .exit)) at (cellsLine (rowIn (now (plane .entry)) row)) cellsBytes r ⌝ }
+{
+    let count = plane[row] as usize;
+    let mut n = put_number(out, at, count as u64);
+    let mut i = 0;
+    while i < count {
+        n = put_cell(out, n, plane, row, i);
+        i += 1;
+    }
+    put_word(out, n, b"\n")
+}
+
+// A plane of n rows.
+pub fn put_plane(out: &mut [u8], at: usize, plane: &[u32], n: usize) -> usize
+    requires { ⌜ (at + planeBytes ≤ length (now out)) × PlaneFits (now plane) n ⌝ }
+    ensures { λ r. ⌜ Written (now (out .entry)) (now (out .exit)) at (planeLines (planeIn (now (plane .entry)) n)) planeBytes r ⌝ }
+{
+    let mut m = put_count(out, at, b"plane ", n);
+    let mut row = 0;
+    while row < n {
+        m = put_cells(out, m, plane, row);
+        row += 1;
+    }
+    m
+}
+
+// The numbers of an upright sheet of n rows, and its plane.
+pub fn put_upright(
+    out: &mut [u8],
+    at: usize,
+    orientation: u32,
+    policy: u32,
+    rules: u64,
+    plane: &[u32],
+    n: usize,
+) -> usize
+    requires { ⌜ (at + uprightBytes ≤ length (now out)) × PlaneFits (now plane) n ⌝ }
+    ensures { λ r. ⌜ Written (now (out .entry)) (now (out .exit)) at (uprightLines orientation policy rules (planeIn (now (plane .entry)) n)) uprightBytes r ⌝ }
+{
+    let a = put_three(
+        out,
+        at,
+        b"upright ",
+        orientation as u64,
+        policy as u64,
+        rules,
+    );
+    put_plane(out, a, plane, n)
 }

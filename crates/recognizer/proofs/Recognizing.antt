@@ -29,7 +29,7 @@ use Rattle.clauses.proofs.SpelledStated.{spelled-stated, counted-stated, comple
 use Rattle.slots.specs.Spelt.{Spelt}
 use Rattle.slots.specs.declared.Filled.{Filled}
 use Rattle.slots.proofs.ShapeRoom.{room-all}
-use Rattle.slots.specs.SlotTexts.{textsFrom}
+use Rattle.writer.specs.SlotTexts.{textsFrom}
 use Rattle.recognizer.specs.StatedPolicy.{sheetPolicy, statedPolicy}
 use Rattle.recognizer.specs.Told.{tableRead, tableIn, TableHeld}
 use Rattle.recognizer.specs.declared.SlotTable.{SlotTable}
@@ -121,6 +121,7 @@ module _ (text : ℕ → List ℕ) (s : Sheet) (some : 0 < s .rules) where
             slots = omega (arith, p .slots) ∙ counted;
             few = omega (arith, p .slots, counted, room-all {d = d} h l m .few);
             total = omega (arith, p .total, q);
+            light = p .light (omega arith);
             inside = p .inside;
           }
 

@@ -11,7 +11,7 @@ use Rattle.cells.specs.Held.{Held}
 use Rattle.record.specs.Policy.{Text, Policy}
 use Rattle.record.specs.Record.{Table, packed, slotCount, tableOf}
 use Rattle.record.specs.Slots.{offsetAt, lengthAt, slotLimit}
-use Rattle.slots.specs.SlotTexts.{textsFrom}
+use Rattle.writer.specs.SlotTexts.{textsFrom}
 use Rattle.recognizer.specs.declared.SlotTable.{SlotTable}
 use Rattle.recognizer.specs.declared.Recognized.{Recognized}
 use Rattle.recognizer.specs.declared.Recognized.the-variants.{Stands, NotRecognized}
@@ -41,6 +41,7 @@ pub record TableHeld (t : SlotTable) (bytes d : List ℕ) : Type 0 where
   pub slots : t .slots ≡ slotCount (t .inputs) (t .outputs) (t .annotations) (t .rules)
   pub few : t .slots ≤ slotLimit
   pub total : t .bytes ≡ length (packed (textsFrom bytes d 1 (t .slots - 1)))
+  pub light : t .bytes ≤ t .slots * textBytes
   pub inside : (i : ℕ) → 1 ≤ i → i < t .slots → offsetAt d i + lengthAt d i ≤ length bytes
 
 abbrev pub RecognizedHeld : Recognized → List ℕ → List ℕ → Type 0

@@ -1,6 +1,6 @@
 -- From what drawing a sheet and reading its regions promise to the lines that are printed.
 use mathlib.Core.Path.{_≡_, refl, sym, ap, subst, _∙_}
-use mathlib.Core.Bool.{Bool, true}
+use mathlib.Core.Bool.{true}
 use mathlib.Core.List.{List, _++_}
 use Prim.Native.Nat.{ℕ, _+_, _*_, _≤_, _<_}
 use native.Mathlib.Omega.{arith}
@@ -21,16 +21,22 @@ use Rattle.unicode.specs.declared.Checked.{Checked}
 use Rattle.unicode.specs.declared.Checked.the-variants.{Valid, Invalid}
 use Rattle.canvas.specs.Layers.{drawingOf, sheetOf}
 use Rattle.canvas.specs.Drawn.{outlineIn, LayersIn, Shown}
-use Rattle.canvas.specs.RegionTexts.{regionTextsOf, regionsIn, UsedIn, RegionRoom}
+use Rattle.canvas.specs.RegionTexts.{Regions as Shape, regionTextsOf, regionsIn, UsedIn}
 use Rattle.canvas.specs.declared.Drawing.{Drawing}
 use Rattle.canvas.specs.declared.Drawing.the-variants.{Drawn, NotDrawn}
 use Rattle.canvas.specs.declared.RegionsRead.{RegionsRead}
 use Rattle.canvas.specs.declared.RegionsRead.the-variants.{Read, NotRead}
+use Rattle.cells.specs.Plane.{Plane, planeIn, PlaneFits}
 use Rattle.cells.specs.Spans.{textsIn}
 use Rattle.regions.specs.Rects.{rectsOf}
+use Rattle.step.specs.Made.{planeMade, MadeFits, StepRoom}
+use Rattle.step.specs.PlaneStep.{planeOf}
+use Rattle.step.specs.declared.PlaneMade.{PlaneMade}
+use Rattle.step.specs.declared.PlaneMade.the-variants.{Made, NotMade}
 use Rattle.print.specs.Lines.{refusedLine}
+use Rattle.print.specs.Planes.{planeLines}
 use Rattle.print.specs.Drawings.{layersLines, countedLines, nameLine, Layer, Texts, Regions}
-use Rattle.replay.specs.DrawingLines.{regionsLines, drawingLines}
+use Rattle.replay.specs.DrawingLines.{planePrinted, regionsLines, drawingLines}
 
 drawn-fits : (rs : List (List ℕ)) (o : Outline) → drawingOf rs ≡ ok o → fits rs ≡ true
 unfolding drawingOf sizeOf
@@ -60,7 +66,7 @@ module _ (s : List ℕ) (d : Drawing) (e : outlineIn d ≡ sheetOf s) where
         record { columns = rw (shown .columns) (f .0); rows = rw (shown .rows) (f .1); size = omega arith }
 
     pub drawn-lines : layersLines (canvas w h t) (canvas w h m) (canvas w h b) (canvas w h g) w h
-        ++ regionsLines (o .named) (regionTextsOf (canvas w h t) (canvas w h m) w h) ≡ drawingLines s
+        ++ regionsLines o (canvas w h g) w h (regionTextsOf (canvas w h t) (canvas w h m) w h) ≡ drawingLines s
     unfolding drawingLines
     drawn-lines = let q = shown in rw (outlined, q .text, q .thin, q .body, q .grid, q .columns, q .rows)
 
@@ -69,14 +75,34 @@ module _ (s : List ℕ) (d : Drawing) (e : outlineIn d ≡ sheetOf s) where
   not-drawn {r} k = let q : sheetOf s ≡ refused r = sym e ∙ ap outlineIn k in rw q
 
 -- regions that are read
-module _ (text thin : List ℕ) (w h : ℕ) (named : Bool) (r : RegionsRead) (rects bytes spans : List ℕ)
+module _ (o : Outline) (text thin grid : List ℕ) (w h : ℕ) (r : RegionsRead) (rects bytes spans : List ℕ)
     (e : regionsIn r rects bytes spans ≡ regionTextsOf (canvas w h text) (canvas w h thin) w h) where
-  pub read-lines : {n used : ℕ} → r ≡ Read n used
-      → countedLines (rectsOf rects n) (textsIn bytes spans n) ++ nameLine named (textsIn bytes spans n) ≡ regionsLines named (regionTextsOf (canvas w h text) (canvas w h thin) w h)
-  read-lines k = ap (regionsLines named) (sym (ap (λ (r : RegionsRead). regionsIn r rects bytes spans) k) ∙ e)
+  lines : (q : Reading Shape) → regionsIn r rects bytes spans ≡ q → regionsLines o (canvas w h grid) w h q ≡ regionsLines o (canvas w h grid) w h (regionTextsOf (canvas w h text) (canvas w h thin) w h)
+  lines q k = ap (regionsLines o (canvas w h grid) w h) (sym k ∙ e)
 
-  pub not-read : {q : Refusal} → r ≡ NotRead q → refusedLine (numbers q) ≡ regionsLines named (regionTextsOf (canvas w h text) (canvas w h thin) w h)
-  not-read k = ap (regionsLines named) (sym (ap (λ (r : RegionsRead). regionsIn r rects bytes spans) k) ∙ e)
+  pub read-lines : {n used : ℕ} → r ≡ Read n used
+      → countedLines (rectsOf rects n) (textsIn bytes spans n) ++ (nameLine (o .named) (textsIn bytes spans n) ++ planePrinted (planeOf o (rectsOf rects n) (canvas w h grid) w h))
+      ≡ regionsLines o (canvas w h grid) w h (regionTextsOf (canvas w h text) (canvas w h thin) w h)
+  read-lines k = lines _ (ap (λ (r : RegionsRead). regionsIn r rects bytes spans) k)
+
+  pub not-read : {q : Refusal} → r ≡ NotRead q → refusedLine (numbers q) ≡ regionsLines o (canvas w h grid) w h (regionTextsOf (canvas w h text) (canvas w h thin) w h)
+  not-read k = lines _ (ap (λ (r : RegionsRead). regionsIn r rects bytes spans) k)
+
+-- the plane step's slices
+pub step-room : {w h n : ℕ} {grid rects : List ℕ} → Layer w h grid → n ≤ regionCount → regionCount * 4 ≤ length rects → StepRoom w h n grid rects
+step-room l k r =
+    record { layer = record { columns = omega (arith, l .columns); rows = omega (arith, l .rows); size = l .size }; few = k; rects = omega arith }
+
+-- what is printed of a plane that is made, or not
+module _ (m : PlaneMade) (d : List ℕ) (x : Reading Plane) (e : planeMade m d ≡ x) where
+  pub made-lines : {n : ℕ} → m ≡ Made n → planeLines (planeIn d n) ≡ planePrinted x
+  made-lines k = ap planePrinted (sym (ap (λ (m : PlaneMade). planeMade m d) k) ∙ e)
+
+  pub not-made : {r : Refusal} → m ≡ NotMade r → refusedLine (numbers r) ≡ planePrinted x
+  not-made k = ap planePrinted (sym (ap (λ (m : PlaneMade). planeMade m d) k) ∙ e)
+
+pub made-fits : (m : PlaneMade) (d : List ℕ) {n : ℕ} → MadeFits m d → m ≡ Made n → PlaneFits d n
+made-fits m d f k = subst (λ (m : PlaneMade). MadeFits m d) k f
 
 module _ (r : RegionsRead) (bytes spans : List ℕ) {n used : ℕ} (u : UsedIn r bytes spans) (k : r ≡ Read n used) where
   used-in : UsedIn (Read n used) bytes spans
@@ -87,5 +113,8 @@ module _ (r : RegionsRead) (bytes spans : List ℕ) {n used : ℕ} (u : UsedIn r
       let v = used-in in
       record { twoEach = omega (arith, v .0); inside = λ j i. omega (arith, v .1 .1 .1 j i, v .1 .1 .0); total = omega (arith, v .1 .0, v .1 .1 .0) }
 
+  pub read-few : n ≤ regionCount
+  read-few = used-in .0
+
   pub read-regions : (rects : List ℕ) → regionCount * 4 ≤ length rects → textBytes + 4 ≤ length bytes → regionCount * 2 ≤ length spans → Regions rects bytes spans n
-  read-regions rects a b c = record { count = used-in .0; fourEach = omega (arith, used-in .0); texts = read-texts b c }
+  read-regions rects a b c = record { count = read-few; fourEach = omega (arith, read-few); texts = read-texts b c }

@@ -7,9 +7,9 @@ use lib.Dec.{eqb}
 use borrow.Author.Tests.{eqb-true, eq-eqb}
 use Rattle.lists.proofs.Tests.{by-flag, both, true-false}
 use Rattle.model.specs.Policies.{sameText}
-use Rattle.replay.specs.Kinds.{splitWord, drawingWord, kindOf}
+use Rattle.replay.specs.Kinds.{splitWord, drawingWord, planeWord, kindOf}
 use Rattle.replay.specs.declared.Kind.{Kind}
-use Rattle.replay.specs.declared.Kind.the-variants.{Split, Drawing, Unknown}
+use Rattle.replay.specs.declared.Kind.the-variants.{Split, Drawing, Plane, Unknown}
 
 same-self : (s : List ℕ) → sameText s s ≡ true
 unfolding sameText
@@ -39,6 +39,11 @@ pub kind-drawing : (s : List ℕ) → sameText s splitWord ≡ false → sameTex
 unfolding kindOf
 kind-drawing s e f = rw (e, f)
 
-pub kind-unknown : (s : List ℕ) → sameText s splitWord ≡ false → sameText s drawingWord ≡ false → Unknown ≡ kindOf s
-unfolding kindOf
-kind-unknown s e f = rw (e, f)
+module _ (s : List ℕ) (e : sameText s splitWord ≡ false) (f : sameText s drawingWord ≡ false) where
+  pub kind-plane : sameText s planeWord ≡ true → Plane ≡ kindOf s
+  unfolding kindOf
+  kind-plane g = rw (e, f, g)
+
+  pub kind-unknown : sameText s planeWord ≡ false → Unknown ≡ kindOf s
+  unfolding kindOf
+  kind-unknown g = rw (e, f, g)

@@ -3,6 +3,7 @@ pub mod Finding
 pub mod Reading
 pub mod Shifting
 pub mod DrawingLaws
+pub mod LentLaws
 pub mod KindLaws
 pub mod Replaying
 pub mod Examples

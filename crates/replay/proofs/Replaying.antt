@@ -23,7 +23,7 @@ use Rattle.replay.specs.declared.LineText.the-variants.{Text, Malformed}
 use Rattle.replay.specs.declared.Answered.{Answered}
 use Rattle.replay.specs.declared.Answered.the-variants.{Upto, NoText}
 use Rattle.replay.specs.declared.Kind.{Kind}
-use Rattle.replay.specs.declared.Kind.the-variants.{Split as SplitKind, Drawing, Unknown}
+use Rattle.replay.specs.declared.Kind.the-variants.{Split as SplitKind, Drawing, Plane, Unknown}
 use Rattle.model.specs.RuleNumbers.{numberOf}
 use Rattle.print.proofs.WrittenLaws.{take-written, written-as}
 
@@ -86,6 +86,7 @@ module _ {line : List ℕ} {end : ℕ} (f : FirstAt line 0 blank end) where
   unfolding textOf before numberOf
   nothing-behind SplitKind = refl
   nothing-behind Drawing = refl
+  nothing-behind Plane = refl
   nothing-behind Unknown = refl
 
   pub no-rest : end ≡ length line → answerOf textBytes line ≡ none

@@ -8,20 +8,22 @@ use Prim.Native.Nat.{ℕ, _+_, _<_}
 use lib.ListN.{length, drop}
 use Rattle.lists.specs.Answer.{ok, refused}
 use Rattle.model.specs.Refusals.{Reading, numbers}
+use Rattle.lent.specs.LentPlane.{LentPlane}
 use Rattle.utils.specs.Split.{Values, splitOf}
 use Rattle.print.specs.Decimal.{Written}
 use Rattle.print.specs.Lines.{lineFeed, valuesLine, refusedLine}
 use Rattle.replay.specs.DrawingLines.{drawingLines}
+use Rattle.replay.specs.LentLines.{_>>=_, lentIn, lentLines}
 use Rattle.replay.specs.Kinds.{kindOf, wordOf, restOf}
 use Rattle.replay.specs.Texts.{before, textOf}
 use Rattle.replay.specs.declared.Answered.{Answered}
 use Rattle.replay.specs.declared.Answered.the-variants.{Upto, NoText}
 use Rattle.replay.specs.declared.Kind.{Kind}
-use Rattle.replay.specs.declared.Kind.the-variants.{Split, Drawing, Unknown}
+use Rattle.replay.specs.declared.Kind.the-variants.{Split, Drawing, Plane, Unknown}
 
--- room for every answer: each byte of a split's texts takes at most four, and a drawing takes less
+-- room for every answer: layers, regions and plane of a drawing take most
 abbrev pub lineBytes : ℕ
-lineBytes = 500000
+lineBytes = 550000
 
 -- "own" and a line feed
 abbrev pub ownLine : List ℕ
@@ -52,9 +54,18 @@ splitAnswer room s = onRead (textOf room s) (splitLine room)
 abbrev pub drawingAnswer : ℕ → List ℕ → Option (List ℕ)
 drawingAnswer room s = onRead (textOf room s) drawingLines
 
+-- the answer to the lists of a lent plane
+abbrev pub lentAnswer : Option LentPlane → Option (List ℕ)
+lentAnswer none = none
+lentAnswer (some l) = some (lentLines l)
+
+abbrev pub planeAnswer : ℕ → List ℕ → Option (List ℕ)
+planeAnswer room s = _>>=_ (textOf room s) (λ t. lentAnswer (lentIn t))
+
 abbrev pub answerBy : Kind → ℕ → List ℕ → Option (List ℕ)
 answerBy Split room s = splitAnswer room s
 answerBy Drawing room s = drawingAnswer room s
+answerBy Plane room s = planeAnswer room s
 answerBy Unknown room s = none
 
 -- the answer to a line without its line feed, if it is none that is malformed

@@ -7,7 +7,7 @@ use Rattle.model.specs.Policies.{sameText}
 use Rattle.print.specs.Lines.{blank}
 use Rattle.replay.specs.Texts.{before}
 use Rattle.replay.specs.declared.Kind.{Kind}
-use Rattle.replay.specs.declared.Kind.the-variants.{Split, Drawing, Unknown}
+use Rattle.replay.specs.declared.Kind.the-variants.{Split, Drawing, Plane, Unknown}
 
 -- "split"
 abbrev pub splitWord : List ℕ
@@ -17,9 +17,13 @@ splitWord = 0x73 ∷ 0x70 ∷ 0x6C ∷ 0x69 ∷ 0x74 ∷ []
 abbrev pub drawingWord : List ℕ
 drawingWord = 0x64 ∷ 0x72 ∷ 0x61 ∷ 0x77 ∷ 0x69 ∷ 0x6E ∷ 0x67 ∷ []
 
+-- "plane"
+abbrev pub planeWord : List ℕ
+planeWord = 0x70 ∷ 0x6C ∷ 0x61 ∷ 0x6E ∷ 0x65 ∷ []
+
 -- what a word asks for
 unfoldable pub kindOf : List ℕ → Kind
-kindOf word = choose (sameText word splitWord) Split (choose (sameText word drawingWord) Drawing Unknown)
+kindOf word = choose (sameText word splitWord) Split (choose (sameText word drawingWord) Drawing (choose (sameText word planeWord) Plane Unknown))
 
 -- a line's first word, and what stands behind it and a blank
 abbrev pub wordOf : List ℕ → List ℕ

@@ -1,4 +1,5 @@
 pub mod Texts
 pub mod Kinds
 pub mod DrawingLines
+pub mod LentLines
 pub mod Answers

@@ -1,14 +1,14 @@
 -- The slots that a shape takes: all of them have room.
 use mathlib.Core.Path.{_≡_}
-use Prim.Native.Nat.{ℕ, _+_, _*_, _≤_}
 use mathlib.Core.List.{List}
+use Prim.Native.Nat.{ℕ, _+_, _*_, _≤_}
 use native.Mathlib.Nat.{mul-le-mul-right}
 use native.Mathlib.Omega.{arith}
 use lib.ListN.{length, length-append}
 use Rattle.lists.proofs.RunLaws.{length-run}
 use Rattle.model.specs.Limits.{planeRows}
-use Rattle.cells.specs.Plane.{Plane}
 use Rattle.record.specs.Slots.{slotLimit}
+use Rattle.cells.specs.Plane.{Plane}
 use Rattle.clauses.specs.Spelled.{entryTexts}
 use Rattle.clauses.specs.Told.{ShapeFits}
 use Rattle.clauses.specs.declared.Shape.{Shape}
@@ -31,8 +31,8 @@ module _ (s : Shape) where
   abbrev pub fromInputs : ℕ → ℕ
   fromInputs rules = 2 * s .inputs + fromOutputs rules
 
-pub fewer-rules : {s : Shape} {rows : ℕ} (m n : ℕ) → ShapeFits s rows n → m ≤ n → ShapeFits s rows m
-fewer-rules m n f h = record { columns = f .columns; behind = f .behind; height = omega (arith, f .height); notes = f .notes }
+pub fewer-rules : {s : Shape} {rows m n : ℕ} → ShapeFits s rows n → m ≤ n → ShapeFits s rows m
+fewer-rules f h = record { columns = f .columns; behind = f .behind; height = omega (arith, f .height); notes = f .notes }
 
 -- 2 + 3 · 63 + 63 · 63 at most
 pub room-all : {s : Shape} {rows rules : ℕ} {d : List ℕ} → ShapeFits s rows rules → rows ≤ planeRows → 3 * slotLimit ≤ length d

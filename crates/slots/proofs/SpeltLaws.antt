@@ -16,13 +16,13 @@ use Rattle.lists.specs.Run.{run}
 use Rattle.lists.proofs.RunLaws.{run-same, run-next}
 use Rattle.lists.proofs.Tests.{by-flag, choose-on}
 use Rattle.model.specs.Limits.{textBytes}
-use Rattle.clauses.specs.Clauses.{present}
-use Rattle.clauses.specs.Spelled.{joinRun}
 use Rattle.record.specs.Policy.{Text}
 use Rattle.record.specs.Record.{bytesOf, packed}
 use Rattle.record.specs.Slots.{kindAt, offsetAt, lengthAt}
 use Rattle.record.proofs.Texts.{length-packed}
-use Rattle.slots.specs.SlotTexts.{textOfKind, slotText}
+use Rattle.clauses.specs.Clauses.{present}
+use Rattle.clauses.specs.Spelled.{joinRun}
+use Rattle.writer.specs.SlotTexts.{textOfKind, slotText}
 use Rattle.slots.specs.Spelt.{partOf, PartIn, SlotPut, Room, Spelt}
 use Rattle.slots.specs.declared.Filled.{Filled}
 use Rattle.slots.specs.declared.Part.{Part}
@@ -98,6 +98,9 @@ module _ (d : List ℕ) (at k a n : ℕ) where
         offset = before-three (3 * at + 1) (omega arith) ∙ getD-set-same one (3 * at + 1) a 0 (lt-length-set d (3 * at) k (omega arith));
         size = getD-set-same two (3 * at + 2) n 0 (lt-length-set one (3 * at + 1) a (lt-length-set d (3 * at) k (omega arith)));
         kept = λ j l. before-two j (omega arith) ∙ getD-set-other d (3 * at) j k 0 (λ z. absurd (omega arith));
+        behind =
+            λ j l. getD-set-other two (3 * at + 2) j n 0 (λ z. absurd (omega arith)) ∙ getD-set-other one (3 * at + 1) j a 0 (λ z. absurd (omega arith))
+            ∙ getD-set-other d (3 * at) j k 0 (λ z. absurd (omega arith));
       }
 
 -- slots that are the same up to slot m have the same texts before it
@@ -166,9 +169,17 @@ spelt-then {bytes} {d} {o} {o'} {a} {b} {c} {ts} {us} u v =
 pub spelt-as : {bytes d o : List ℕ} {a b : Filled} {ts us : List Text} → Spelt bytes d o a b ts → ts ≡ us → Spelt bytes d o a b us
 spelt-as s e = rw e at s
 
+-- one text, by another name
+pub spelt-text : {bytes d o : List ℕ} {a b : Filled} {t u : Text} → Spelt bytes d o a b (t ∷ []) → t ≡ u → Spelt bytes d o a b (u ∷ [])
+spelt-text s e = spelt-as s (ap (λ (t : Text). t ∷ []) e)
+
+-- a text that stands there by a test
+pub optional-on : {t : Bool} {v w : List ℕ} (u : Text) → v ≡ w → t ≡ true → present v ≡ choose t (present w) u
+optional-on {t} {v} {w} u e h = ap present e ∙ sym (choose-on t (present w) u h)
+
 -- the room behind m texts
-pub room-next : {bytes d o : List ℕ} {a b : Filled} {ts : List Text} (k m n : ℕ) → Room a k d → Spelt bytes d o a b ts → length ts ≡ m → m + n ≤ k → length o ≡ length d → Room b n o
-room-next k m n r s e h l =
+pub room-next : {bytes d o : List ℕ} {a b : Filled} {ts : List Text} {k m n : ℕ} → Room a k d → Spelt bytes d o a b ts → length ts ≡ m → m + n ≤ k → length o ≡ length d → Room b n o
+room-next r s e h l =
     record {
       slots = omega (arith, r .slots, s .slots);
       few = omega (arith, r .few, s .slots);
@@ -176,8 +187,8 @@ room-next k m n r s e h l =
     }
 
 -- less room
-pub room-less : {a : Filled} {d : List ℕ} (k n : ℕ) → Room a k d → n ≤ k → Room a n d
-room-less k n r h = record { slots = omega (arith, r .slots); few = omega (arith, r .few); light = r .light }
+pub room-less : {a : Filled} {d : List ℕ} {k n : ℕ} → Room a k d → n ≤ k → Room a n d
+room-less r h = record { slots = omega (arith, r .slots); few = omega (arith, r .few); light = r .light }
 
 -- i of n turns are done, of m texts each: they are `far i`
 pub record Turning (bytes d₀ : List ℕ) (from : Filled) (far : ℕ → List Text) (m n : ℕ) (d : List ℕ) (to : Filled) (i : ℕ) : Type 0 where
@@ -192,7 +203,7 @@ turning-start bytes d from far m n k r h e =
     record {
       along = omega arith;
       long = refl;
-      room = rw z (room-less k (n * m) r h);
+      room = rw z (room-less r h);
       spelt = rw e (spelt-none bytes d from);
     }
 
@@ -201,7 +212,7 @@ module _ {bytes d₀ : List ℕ} {from : Filled} {far : ℕ → List Text} {m n 
   left h = let e : n - i ≡ suc (n - (i + 1)) = omega arith in rw e (suc-mul (n - (i + 1)) m)
 
   pub turning-room : i < n → Room to m d
-  turning-room h = room-less ((n - i) * m) m (t .room) (omega (arith, left h))
+  turning-room h = room-less (t .room) (omega (arith, left h))
 
   pub turning-more : {e : List ℕ} {next : Filled} {us : List Text} → i < n → Spelt bytes d e to next us → length us ≡ m → far (i + 1) ≡ far i ++ us
       → length e ≡ length d → Turning bytes d₀ from far m n e next (i + 1)
@@ -209,17 +220,9 @@ module _ {bytes d₀ : List ℕ} {from : Filled} {far : ℕ → List Text} {m n 
       record {
         along = omega arith;
         long = k ∙ t .long;
-        room = room-next ((n - i) * m) m ((n - (i + 1)) * m) (t .room) s l (omega (arith, left h)) k;
+        room = room-next (t .room) s l (omega (arith, left h)) k;
         spelt = spelt-as (spelt-then (t .spelt) s) (sym f);
       }
 
   pub turning-end : n ≤ i → Spelt bytes d₀ d from to (far n)
   turning-end h = let a = t .along in let z : i ≡ n = omega arith in spelt-as (t .spelt) (ap far z)
-
--- one text, by another name
-pub spelt-text : {bytes d o : List ℕ} {a b : Filled} {t u : Text} → Spelt bytes d o a b (t ∷ []) → t ≡ u → Spelt bytes d o a b (u ∷ [])
-spelt-text s e = spelt-as s (ap (λ (t : Text). t ∷ []) e)
-
--- a text that stands there by a test
-pub optional-on : {t : Bool} {v w : List ℕ} (u : Text) → v ≡ w → t ≡ true → present v ≡ choose t (present w) u
-optional-on {t} {v} {w} u e h = ap present e ∙ sym (choose-on t (present w) u h)

@@ -1,2 +1,1 @@
-pub mod SlotTexts
 pub mod Spelt

@@ -8,7 +8,7 @@ use Rattle.cells.specs.Held.{Held}
 use Rattle.record.specs.Policy.{Text}
 use Rattle.record.specs.Record.{packed}
 use Rattle.record.specs.Slots.{kindAt, offsetAt, lengthAt, slotLimit}
-use Rattle.slots.specs.SlotTexts.{textsFrom}
+use Rattle.writer.specs.SlotTexts.{textsFrom}
 use Rattle.slots.specs.declared.Filled.{Filled}
 use Rattle.slots.specs.declared.Part.{Part}
 
@@ -25,12 +25,13 @@ pub record PartIn (p : Part) (bytes : List ℕ) : Type 0 where
   pub inside : p .offset + p .size ≤ length bytes
   pub few : length bytes ≤ textBytes
 
--- one slot's numbers are written, and nothing before them changed
+-- one slot's numbers are written, and nothing else changed
 pub record SlotPut (d o : List ℕ) (at k a n : ℕ) : Type 0 where
   pub kind : kindAt o at ≡ k
   pub offset : offsetAt o at ≡ a
   pub size : lengthAt o at ≡ n
   pub kept : (j : ℕ) → j < 3 * at → getD o j 0 ≡ getD d j 0
+  pub behind : (j : ℕ) → 3 * at + 3 ≤ j → getD o j 0 ≡ getD d j 0
 
 -- room for n slots more
 pub record Room (from : Filled) (n : ℕ) (d : List ℕ) : Type 0 where

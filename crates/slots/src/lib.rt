@@ -4,6 +4,7 @@ use clauses::Shape;
 use record::ABSENT;
 use record::PART;
 use utils::Measured;
+use writer::VALUES;
 ghost use mathlib.Core.List.{List, [], _∷_};
 ghost use mathlib.Core.Option.{none, some};
 ghost use mathlib.Core.Path.{_≡_};
@@ -21,9 +22,6 @@ ghost use Rattle.clauses.specs.Told.{ShapeFits};
 ghost use Rattle.utils.specs.Split.{valuesOf};
 ghost use Rattle.slots.specs.Spelt.{Texts, partOf, PartIn, SlotPut, Room, Spelt};
 
-// The kind of a slot whose text is the allowed values of a part.
-pub const VALUES: u32 = 2;
-
 // The next slot, and the bytes of the texts before it.
 pub struct Filled {
     pub slot: usize,
@@ -37,7 +35,7 @@ struct Part {
 }
 
 // The numbers of a slot.
-fn put_slot(slots: &mut [u32], at: usize, kind: u32, offset: u32, size: u32)
+pub fn put_slot(slots: &mut [u32], at: usize, kind: u32, offset: u32, size: u32)
     requires { ⌜ (3 * at + 3 ≤ length (now slots)) × (at < slotLimit) ⌝ }
     ensures { λ _. ⌜ SlotPut (now (slots .entry)) (now (slots .exit)) at kind offset size ⌝ }
 {

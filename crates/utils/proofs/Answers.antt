@@ -21,20 +21,28 @@ use Rattle.unicode.specs.declared.Checked.the-variants.{Valid, Invalid}
 use Rattle.utils.specs.Commas.{parts}
 use Rattle.utils.specs.Emphasis.{Choice, plain, marked}
 use Rattle.utils.specs.Found.{FoundIn}
-use Rattle.utils.specs.Split.{replaceAll, Values, choiceOf, valuesBy, valuesOf, splitBy, splitOf, scratchOf, answered, Places, MeasuredOf}
+use Rattle.utils.specs.Split.{replaceAll, Values, choiceOf, valuesBy, valuesOf, splitBy, splitOf, scratchBy, scratchOf, answered, Places, allowedIn, MeasuredOf}
 use Rattle.utils.specs.declared.Measured.the-variants.{Plain, Marked}
 use Rattle.utils.specs.declared.Split.{Split}
 use Rattle.utils.specs.declared.Split.the-variants.{Own, Rewritten, NotSplit}
 use Rattle.utils.proofs.Finding.{between, Sized, first-sized}
 use Rattle.utils.proofs.Replacing.{replace-length}
 
--- what `split_values` promises of its answer r, where the slice d has become o
+-- what `split_text` promises of its answer r, where the slice d has become o
 abbrev pub Promised : Split → List ℕ → List ℕ → List ℕ → Type 0
-Promised r t d o = (answered r t o ≡ splitOf t (length d)) × (Places r t o × (o ≡ scratchOf t d))
+Promised r t d o = (answered r t o ≡ splitBy (choiceOf t) t (length d)) × (Places r t o × (o ≡ scratchBy (choiceOf t) t d))
 
-pub answer-invalid : (t d : List ℕ) {at : ℕ} → checked t ≡ Invalid at → Promised (NotSplit (InvalidUtf8 at)) t d d
+-- and `split_values`
+abbrev pub PromisedOf : Split → List ℕ → List ℕ → List ℕ → Type 0
+PromisedOf r t d o = (answered r t o ≡ splitOf t (length d)) × (Places r t o × (o ≡ scratchOf t d))
+
+pub answer-invalid : (t d : List ℕ) {at : ℕ} → checked t ≡ Invalid at → PromisedOf (NotSplit (InvalidUtf8 at)) t d d
 unfolding splitOf scratchOf
 answer-invalid t d e = (rw e, (tt, rw e))
+
+pub answer-valid : (r : Split) (t d o : List ℕ) → checked t ≡ Valid → Promised r t d o → PromisedOf r t d o
+unfolding splitOf scratchOf
+answer-valid r t d o v p = (p .0 ∙ rw v, (p .1 .0, p .1 .1 ∙ rw v))
 
 module _ {t : List ℕ} {from to a b : ℕ} {hit : Bool} (i : FoundIn t hit from to a b) where
   none-chosen : hit ≡ false → choiceOf t ≡ plain
@@ -55,27 +63,24 @@ module _ {t : List ℕ} {from to a b : ℕ} {hit : Bool} (i : FoundIn t hit from
   unfolding valuesOf
   measured-marked h e = (e ∙ rw (chosen h), rw (chosen h), i .ordered, omega (arith, i .high, i .inside))
 
-  module _ (d : List ℕ) (v : checked t ≡ Valid) where
+  module _ (d : List ℕ) where
     pub answer-own : hit ≡ false → Promised Own t d d
-    unfolding splitOf scratchOf
-    answer-own h = (rw (v, none-chosen h), (tt, rw (v, none-chosen h)))
+    answer-own h = (rw (none-chosen h), (tt, rw (none-chosen h)))
 
     module _ (h : hit ≡ true) {n : ℕ} (e : n ≡ length (replaceAll 0 (between t from to) (between t a b) t)) where
       pub answer-short : length d < n → Promised (NotSplit (OutputSliceShort n)) t d d
-      unfolding splitOf scratchOf
       answer-short l =
           let z : ltb (length d) (length (replaceAll 0 (between t from to) (between t a b) t)) ≡ true = lt-ltb _ _ (rw e at l) in
-          (rw (v, chosen h, z, e), (tt, rw (v, chosen h, z)))
+          (rw (chosen h, z, e), (tt, rw (chosen h, z)))
 
       pub answer-rewritten : {o : List ℕ} → n ≤ length d → o ≡ put d 0 (replaceAll 0 (between t from to) (between t a b) t) → Promised (Rewritten n a b) t d o
-      unfolding splitOf scratchOf
       answer-rewritten {o} l u =
           let z : ltb (length d) (length (replaceAll 0 (between t from to) (between t a b) t)) ≡ false = le-ltb _ _ (rw e at l) in
           let w : take n o ≡ replaceAll 0 (between t from to) (between t a b) t =
           ap (take n) (u ∙ put-front d _ n (sym e)) ∙ take-at _ (drop n d) n (sym e) in
           let m : length o ≡ length d = ap length u ∙ length-put d 0 _ (omega arith) in
           let places : Places (Rewritten n a b) t o = (omega arith, (rw (chosen h), (i .ordered, omega (arith, i .high, i .inside)))) in
-          (rw (v, chosen h, z, w), (places, u ∙ rw (v, chosen h, z)))
+          (rw (chosen h, z, w), (places, u ∙ rw (chosen h, z)))
 
 -- a split that is not refused gives the values of the text
 pub split-ok : (t : List ℕ) (room : ℕ) (v : Values) → splitOf t room ≡ ok v → (checked t ≡ Valid) × (v ≡ valuesOf t)
@@ -102,6 +107,13 @@ module _ (t d : List ℕ) (room : ℕ) where
       let v = split-ok t room _ (sym e) .1 in
       (ap (λ (x : Values). x .allowed) v, ap (λ (x : Values). x .default) v)
 
+pub allowed-in : (r : Split) (t d : List ℕ) (v : Values) → answered r t d ≡ ok v → allowedIn r t d ≡ v .allowed
+allowed-in Own t d v e = let w : record { allowed = t; default = none } ≡ v = cc in ap (λ (x : Values). x .allowed) w
+allowed-in (Rewritten n from to) t d v e =
+    let w : record { allowed = take n d; default = some (take (to - from) (drop from t)) } ≡ v = cc in
+    ap (λ (x : Values). x .allowed) w
+allowed-in (NotSplit r) t d v e = refused-ok e
+
 -- the allowed values are no longer than the text, so a slice of its length has room for them
 pub split-length : (t : List ℕ) → length (valuesOf t .allowed) ≤ length t
 unfolding valuesOf
@@ -111,10 +123,14 @@ split-length t = go (choiceOf t) (first-sized 0 (parts t))
     go plain h = omega arith
     go (marked place part bare) h = replace-length part bare (h .0) (h .1) t
 
-pub split-room : (t : List ℕ) (room : ℕ) → checked t ≡ Valid → length t ≤ room → splitOf t room ≡ ok (valuesOf t)
-unfolding splitOf valuesOf
-split-room t room v h = rw v (go (choiceOf t) (split-length t))
+pub split-fits : (t : List ℕ) (room : ℕ) → length t ≤ room → splitBy (choiceOf t) t room ≡ ok (valuesOf t)
+unfolding valuesOf
+split-fits t room h = go (choiceOf t) (split-length t)
   where
     go : (c : Choice) → length (valuesBy c t .allowed) ≤ length t → splitBy c t room ≡ ok (valuesBy c t)
     go plain l = refl
     go (marked place part bare) l = rw (le-ltb room (length (replaceAll 0 part bare t)) (omega arith))
+
+pub split-room : (t : List ℕ) (room : ℕ) → checked t ≡ Valid → length t ≤ room → splitOf t room ≡ ok (valuesOf t)
+unfolding splitOf
+split-room t room v h = rw v (split-fits t room h)

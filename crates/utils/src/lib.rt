@@ -9,7 +9,7 @@ ghost use lib.Dec.{leb, ltb};
 ghost use lib.ListN.{length, take, drop, set};
 ghost use Rattle.lists.specs.Put.{put};
 ghost use Rattle.utils.specs.Emphasis.{startsWith, endsWith, stripStart, stripEnd, strip, marks, emphasised, marked};
-ghost use Rattle.utils.specs.Split.{replaceAll, splitOf, scratchOf, answered, Places, allowedIn, MeasuredOf};
+ghost use Rattle.utils.specs.Split.{replaceAll, choiceOf, splitBy, splitOf, scratchBy, scratchOf, answered, Places, allowedIn, MeasuredOf};
 ghost use Rattle.utils.specs.Found.{PartEnd, MarkOf, FoundIn};
 ghost use Rattle.utils.specs.Periods.{Knows, Safe, Periods, FirstPlace};
 
@@ -368,17 +368,11 @@ pub enum Split {
 }
 
 // The value split of a text, with the allowed values in scratch where they are rewritten.
-pub fn split_values(text: &[u8], scratch: &mut [u8]) -> Split
-    ensures answer { λ r. ⌜ answered r (now (text .entry)) (now (scratch .exit)) ≡ splitOf (now (text .entry)) (length (now (scratch .entry))) ⌝ }
+pub fn split_text(text: &[u8], scratch: &mut [u8]) -> Split
+    ensures answer { λ r. ⌜ answered r (now (text .entry)) (now (scratch .exit)) ≡ splitBy (choiceOf (now (text .entry))) (now (text .entry)) (length (now (scratch .entry))) ⌝ }
     ensures places { λ r. ⌜ Places r (now (text .entry)) (now (scratch .exit)) ⌝ }
-    ensures scratch { λ _. ⌜ now (scratch .exit) ≡ scratchOf (now (text .entry)) (now (scratch .entry)) ⌝ }
+    ensures scratch { λ _. ⌜ now (scratch .exit) ≡ scratchBy (choiceOf (now (text .entry))) (now (text .entry)) (now (scratch .entry)) ⌝ }
 {
-    match unicode::validate(text) {
-        Checked::Invalid(at) => {
-            return Split::NotSplit(Refusal::InvalidUtf8(at));
-        }
-        Checked::Valid => {}
-    }
     let f = first_marked(text);
     let from = f.from;
     let to = f.to;
@@ -395,6 +389,18 @@ pub fn split_values(text: &[u8], scratch: &mut [u8]) -> Split
         return Split::Rewritten(n, a, b);
     }
     Split::Own
+}
+
+// The same, of a text that is first checked to be UTF-8.
+pub fn split_values(text: &[u8], scratch: &mut [u8]) -> Split
+    ensures answer { λ r. ⌜ answered r (now (text .entry)) (now (scratch .exit)) ≡ splitOf (now (text .entry)) (length (now (scratch .entry))) ⌝ }
+    ensures places { λ r. ⌜ Places r (now (text .entry)) (now (scratch .exit)) ⌝ }
+    ensures scratch { λ _. ⌜ now (scratch .exit) ≡ scratchOf (now (text .entry)) (now (scratch .entry)) ⌝ }
+{
+    match unicode::validate(text) {
+        Checked::Invalid(at) => Split::NotSplit(Refusal::InvalidUtf8(at)),
+        Checked::Valid => split_text(text, scratch),
+    }
 }
 
 // The allowed values after the split: the text, or a part of scratch.

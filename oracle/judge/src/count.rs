@@ -2,7 +2,7 @@
 
 use std::collections::BTreeMap;
 
-/// Counts the answers to sheets, planes or splits; one line for each outcome.
+/// Counts the answers to sheets, planes, plane lines or splits; one line for each outcome.
 pub fn count(answers: &[u8]) -> String {
     let mut counts: BTreeMap<(u32, String), usize> = BTreeMap::new();
     for line in answers.split(|byte| *byte == b'\n') {
@@ -24,6 +24,8 @@ fn outcome(line: &[u8]) -> Option<(u32, String)> {
         ("orientation", Some("1")) => (1, "record columns".to_string()),
         ("own", None) => (2, "own".to_string()),
         ("values", Some(_)) => (3, "values".to_string()),
+        ("upright", Some("0")) => (4, "upright rows".to_string()),
+        ("upright", Some("1")) => (5, "upright columns".to_string()),
         ("refused", Some(number)) => {
             (10 + number.parse::<u32>().ok()?, format!("refused {number}"))
         }

@@ -1,17 +1,24 @@
-//! The answer to a drawing: the layers as the Rust prints them, the regions with their texts, and
-//! the name of the table.
+//! The answer to a drawing: the layers as the Rust prints them, the regions with their texts, the
+//! name of the table, and the plane.
 
 use crate::canvas::{self, Layer, Regions, Stop};
 use crate::messages::refusal;
 use crate::outcome::{Fault, Judged, Outcome, refused_plainly, run};
-use crate::sheet::{compare_planes, rows_of};
+use crate::rows::{self, Rows, rows};
+use crate::sheet::{RustPlane, compare_planes, rows_of};
 use recognizer::canvas::Canvas;
 use std::io::Write;
 
-/// What drawing a sheet comes to: a refusal, or a canvas and its regions, which may be refused.
+/// What drawing a sheet comes to: a refusal, or a canvas and what is read off it.
 enum Drawing {
     NotDrawn(Outcome),
-    Drawn(Box<Canvas>, Result<Regions, Outcome>),
+    Drawn(Box<Canvas>, Result<Read, Outcome>),
+}
+
+/// The regions of a canvas, and its plane, which may be refused.
+struct Read {
+    regions: Regions,
+    plane: Result<Rows, Outcome>,
 }
 
 fn draw(bytes: &[u8]) -> Judged<Drawing> {
@@ -21,25 +28,39 @@ fn draw(bytes: &[u8]) -> Judged<Drawing> {
     };
     match run(|| Canvas::scan(text)) {
         Ok(Ok(mut canvas)) => {
-            let regions = regions(text, &rows, &mut canvas)?;
-            Ok(Drawing::Drawn(Box::new(canvas), regions))
+            let read = read(text, &rows, &mut canvas)?;
+            Ok(Drawing::Drawn(Box::new(canvas), read))
         }
         Ok(Err(error)) => Ok(Drawing::NotDrawn(refusal(&error))),
         Err(ten) => Ok(Drawing::NotDrawn(ten)),
     }
 }
 
-/// The regions of the judge's own canvas, whose plane must be the Rust's. Where a walk fails, the
-/// Rust's plane tells why.
-fn regions(text: &str, rows: &Layer, canvas: &mut Canvas) -> Judged<Result<Regions, Outcome>> {
+/// The regions of the judge's own canvas and the plane of the Rust, which must be that of the
+/// judge's own canvas.
+fn read(text: &str, layer: &Layer, canvas: &mut Canvas) -> Judged<Result<Read, Outcome>> {
     let rust = run(|| canvas.plane());
-    compare_planes(text, &canvas::plane(rows), &rust)?;
-    match (canvas::regions_of(rows), rust) {
-        (Ok(regions), _) => Ok(Ok(regions)),
-        (Err(Stop::OverLimits), _) => Ok(Err(refused_plainly(7))),
-        (Err(Stop::TheRust), Ok(Err(error))) => Ok(Err(refusal(&error))),
-        (Err(Stop::TheRust), Err(ten)) => Ok(Err(ten)),
-        (Err(Stop::TheRust), Ok(Ok(_))) => Err(Fault(format!("regions differ on:\n{text}"))),
+    let own = canvas::plane(layer);
+    compare_planes(text, &own, &rust)?;
+    let regions = match canvas::regions_of(layer) {
+        Ok(regions) => regions,
+        Err(stop) => return Ok(Err(stopped(text, stop, &rust)?)),
+    };
+    let plane = match (own, &rust) {
+        (Err(stop), rust) => Err(stopped(text, stop, rust)?),
+        (Ok(_), Ok(Ok(plane))) => Ok(rows(plane)),
+        (Ok(_), _) => unreachable!("compared before"),
+    };
+    Ok(Ok(Read { regions, plane }))
+}
+
+/// The refusal where the judge's own canvas stops. Where a walk fails, the Rust's plane tells why.
+fn stopped(text: &str, stop: Stop, rust: &RustPlane) -> Judged<Outcome> {
+    match (stop, rust) {
+        (Stop::OverLimits, _) => Ok(refused_plainly(7)),
+        (Stop::TheRust, Ok(Err(error))) => Ok(refusal(error)),
+        (Stop::TheRust, Err(ten)) => Ok(ten.clone()),
+        (Stop::TheRust, Ok(Ok(_))) => Err(Fault(format!("regions differ on:\n{text}"))),
     }
 }
 
@@ -61,6 +82,14 @@ fn print_regions((rects, texts): &Regions, name: &Option<String>) -> String {
     lines
 }
 
+/// The lines of the plane.
+fn print_plane(plane: &Result<Rows, Outcome>) -> Vec<u8> {
+    match plane {
+        Ok(rows) => rows::print(rows).into_bytes(),
+        Err(outcome) => outcome.print(),
+    }
+}
+
 /// Prints the layers as the Rust does, on standard output and past `out`.
 fn display_layers(out: &mut impl Write, canvas: &Canvas) -> Judged<()> {
     out.flush().map_err(|error| Fault(error.to_string()))?;
@@ -75,12 +104,13 @@ fn display_layers(out: &mut impl Write, canvas: &Canvas) -> Judged<()> {
 pub fn judge_drawing(out: &mut impl Write, bytes: &[u8]) -> Judged<()> {
     match draw(bytes)? {
         Drawing::NotDrawn(outcome) => write(out, &outcome.print()),
-        Drawing::Drawn(canvas, regions) => {
+        Drawing::Drawn(canvas, read) => {
             display_layers(out, &canvas)?;
-            match regions {
-                Ok(regions) => {
-                    let lines = print_regions(&regions, &canvas.information_item_name);
-                    write(out, lines.as_bytes())
+            match read {
+                Ok(read) => {
+                    let lines = print_regions(&read.regions, &canvas.information_item_name);
+                    write(out, lines.as_bytes())?;
+                    write(out, &print_plane(&read.plane))
                 }
                 Err(outcome) => write(out, &outcome.print()),
             }
@@ -97,6 +127,7 @@ pub fn stage(bytes: &[u8]) -> Judged<String> {
     Ok(match draw(bytes)? {
         Drawing::NotDrawn(outcome) => refused_in(&outcome, scan_stage(bytes)),
         Drawing::Drawn(_, Err(outcome)) => refused_in(&outcome, "regions"),
+        Drawing::Drawn(_, Ok(Read { plane: Err(outcome), .. })) => refused_in(&outcome, "plane"),
         Drawing::Drawn(canvas, Ok(_)) => match canvas.information_item_name {
             Some(_) => "read, with a name".to_string(),
             None => "read, without a name".to_string(),

@@ -1,13 +1,13 @@
 //! The answer to a lent plane.
 
 use crate::limits::{KINDS, PLANE_CELLS, PLANE_ROWS, REGIONS, TEXT_BYTES};
+use crate::line::listed;
 use crate::messages::refusal;
 use crate::outcome::{Fault, Judged, Outcome, refused_plainly, run};
 use crate::sheet::of_components;
 use recognizer::plane::{Cell, HitPolicyPlacement, Plane, RuleNumbersPlacement};
 use recognizer::rect::Rect;
 use recognizer::{DecisionTableOrientation, HitPolicy, Recognizer};
-use std::fmt::Write;
 
 /// The slices of a lent plane.
 #[derive(Debug, Default, Clone, PartialEq, Eq)]
@@ -31,34 +31,31 @@ impl Lent {
         for _ in 0..6 {
             lists.push(counted(&mut rest).ok_or_else(fault)?);
         }
-        let bytes: Option<Vec<u8>> = lists[5].iter().map(|byte| u8::try_from(*byte).ok()).collect();
         if !rest.is_empty() {
             return Err(fault());
         }
-        Ok(Self {
-            bytes: bytes.ok_or_else(fault)?,
-            lengths: lists[4].clone(),
-            offsets: lists[3].clone(),
-            regions: lists[2].clone(),
-            kinds: lists[1].clone(),
-            row_lengths: lists[0].clone(),
-        })
+        Self::of_lists(lists).ok_or_else(fault)
+    }
+
+    /// The plane of six lists; nothing where a byte is over 255.
+    pub fn of_lists(lists: Vec<Vec<u64>>) -> Option<Self> {
+        let lists: [Vec<u64>; 6] = lists.try_into().ok()?;
+        let [row_lengths, kinds, regions, offsets, lengths, bytes] = lists;
+        let bytes: Option<Vec<u8>> = bytes.iter().map(|byte| u8::try_from(*byte).ok()).collect();
+        Some(Self { row_lengths, kinds, regions, offsets, lengths, bytes: bytes? })
+    }
+
+    /// The six lists.
+    pub fn lists(&self) -> [Vec<u64>; 6] {
+        let bytes = self.bytes.iter().map(|byte| u64::from(*byte)).collect();
+        let lists = [&self.row_lengths, &self.kinds, &self.regions, &self.offsets, &self.lengths];
+        let [row_lengths, kinds, regions, offsets, lengths] = lists.map(Vec::clone);
+        [row_lengths, kinds, regions, offsets, lengths, bytes]
     }
 
     /// The line of numbers.
     pub fn line(&self) -> String {
-        let bytes: Vec<u64> = self.bytes.iter().map(|byte| u64::from(*byte)).collect();
-        let mut out = String::new();
-        for list in
-            [&self.row_lengths, &self.kinds, &self.regions, &self.offsets, &self.lengths, &bytes]
-        {
-            let gap = if out.is_empty() { "" } else { " " };
-            write!(out, "{gap}{}", list.len()).expect("a string takes all");
-            for number in list {
-                write!(out, " {number}").expect("a string takes all");
-            }
-        }
-        out
+        self.lists().map(|list| listed(&list)).join(" ")
     }
 
     /// Number 26: which of several faults there is does not show.

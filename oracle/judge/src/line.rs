@@ -2,7 +2,9 @@
 
 use crate::drawing::{judge_drawing, stage};
 use crate::outcome::{Fault, Judged};
+use crate::packed::unpack;
 use crate::split::judge_split;
+use crate::upright::judge_upright;
 use std::io::Write;
 
 /// Answers a line; `out` must write to standard output.
@@ -12,6 +14,10 @@ pub fn answer(out: &mut impl Write, line: &str) -> Judged<()> {
             writeln!(out, "{}", judge_split(&bytes)).map_err(|error| Fault(error.to_string()))
         }
         ("drawing", bytes) => judge_drawing(out, &bytes),
+        ("plane", bytes) => {
+            let lent = unpack(&bytes).ok_or_else(|| fault(line))?;
+            out.write_all(&judge_upright(&lent)).map_err(|error| Fault(error.to_string()))
+        }
         _ => Err(fault(line)),
     }
 }
@@ -39,12 +45,12 @@ fn parse(line: &str) -> Judged<(&str, Vec<u8>)> {
     Ok((kind, bytes))
 }
 
-/// Bytes as their count and then each of them.
-pub fn listed(bytes: &[u8]) -> String {
-    let mut out = bytes.len().to_string();
-    for byte in bytes {
+/// Numbers as their count and then each of them.
+pub fn listed<N: ToString>(numbers: &[N]) -> String {
+    let mut out = numbers.len().to_string();
+    for number in numbers {
         out.push(' ');
-        out.push_str(&byte.to_string());
+        out.push_str(&number.to_string());
     }
     out
 }

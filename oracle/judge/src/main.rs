@@ -12,7 +12,7 @@ use std::process::ExitCode;
 
 const USAGE: &str = "judge sheet|sheets|planes [--record-bytes N] < FILE
 judge layers|answers|stages|count < FILE
-judge generate --seed S --count N [--first K] [--kind sheets|damaged|planes|splits|short-splits|short-bytes|long-splits|drawings|damaged-drawings]";
+judge generate --seed S --count N [--first K] [--kind sheets|damaged|planes|splits|short-splits|short-bytes|long-splits|drawings|damaged-drawings|lent-lines|hand-lines]";
 
 /// The options of all modes.
 struct Options {

@@ -74,11 +74,14 @@ fn same_plane(own: &canvas::Plane, rust: &recognizer::plane::Plane) -> bool {
         })
 }
 
+/// What the Rust's regions and plane step come to; a panic is an outcome.
+pub type RustPlane = Result<dsntk_common::Result<recognizer::plane::Plane>, Outcome>;
+
 /// A fault, if the judge's own plane is not the Rust's where no limit is passed.
 pub fn compare_planes(
     text: &str,
     own: &Result<canvas::Plane, canvas::Stop>,
-    rust: &Result<dsntk_common::Result<recognizer::plane::Plane>, Outcome>,
+    rust: &RustPlane,
 ) -> Judged<()> {
     let same = match (own, rust) {
         (Err(canvas::Stop::OverLimits), _) => true,

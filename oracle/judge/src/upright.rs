@@ -5,30 +5,23 @@ use crate::lent::Lent;
 use crate::messages::refusal;
 use crate::outcome::{Outcome, refused_plainly, run};
 use crate::record::policy;
-use crate::sheet::kind;
+use crate::rows::{self, Rows, rows};
 use recognizer::DecisionTableOrientation;
-use recognizer::plane::{Cell, Plane};
 
-/// An upright sheet; a cell is 8 times its region's number, or its kind.
+/// An upright sheet; its regions have the numbers of the lent plane.
 #[derive(Debug, Clone, PartialEq, Eq)]
 pub struct Upright {
     pub orientation: u32,
     pub policy: u32,
     pub rules: u64,
-    pub rows: Vec<Vec<u32>>,
+    pub rows: Rows,
 }
 
-fn number(cell: &Cell) -> u32 {
-    match cell {
-        Cell::Region(number, _, _) => 8 * *number as u32,
-        other => kind(other) as u32,
+impl Upright {
+    fn print(&self) -> String {
+        let Self { orientation, policy, rules, rows } = self;
+        format!("upright {orientation} {policy} {rules}\n{}", rows::print(rows))
     }
-}
-
-fn rows(plane: &Plane) -> Vec<Vec<u32>> {
-    let cell = |row, column| number(plane.cell(row, column).expect("within the row"));
-    let row = |row| (0..plane.row_len(row)).map(|column| cell(row, column)).collect();
-    (0..plane.height()).map(row).collect()
 }
 
 /// The Rust decides the orientation before it reads a clause, and keeps it where a clause is refused.
@@ -63,4 +56,12 @@ pub fn upright_of(lent: &Lent) -> Result<Upright, Outcome> {
         rules: recognizer.rule_count as u64,
         rows: rows(&plane),
     })
+}
+
+/// The lines that answer a lent plane up to its upright sheet.
+pub fn judge_upright(lent: &Lent) -> Vec<u8> {
+    match upright_of(lent) {
+        Ok(upright) => upright.print().into_bytes(),
+        Err(outcome) => outcome.print(),
+    }
 }

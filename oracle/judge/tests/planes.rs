@@ -1,5 +1,6 @@
 //! Lent planes: number 26, rows without cells, texts that are trimmed.
 
+use judge::generate::hand_planes::{CHANGES, FAULTS, changed};
 use judge::lent::{Lent, judge_plane};
 use judge::outcome::{Outcome, refused_plainly};
 
@@ -44,60 +45,31 @@ fn rows_without_cells() {
     assert_eq!(answer(&lent), refused_plainly(10));
 }
 
+/// Faults that do not fit a line; the others are in `lent_lines.rs`.
 #[test]
 fn number_26() {
-    let changes: [fn(&mut Lent); 14] = [
-        |lent| lent.row_lengths.resize(65, 0),
-        |lent| {
-            lent.row_lengths.push(65);
-            lent.kinds.resize(12 + 65, 3);
-            lent.regions.resize(12 + 65, 0);
-        },
-        |lent| {
-            lent.offsets.resize(1_025, 0);
-            lent.lengths.resize(1_025, 0);
-        },
+    let changes: [fn(&mut Lent); 3] = [
         |lent| lent.bytes.resize(61_441, b'z'),
-        |lent| lent.kinds.push(3),
-        |lent| lent.regions.push(0),
-        |lent| lent.row_lengths[0] = 3,
-        |lent| lent.offsets.push(0),
-        |lent| lent.kinds[4] = 8,
-        |lent| lent.regions[0] = 6,
-        |lent| lent.offsets[5] += 1,
         |lent| lent.lengths[0] = u64::MAX,
-        |lent| lent.lengths[0] -= 1,
-        |lent| {
-            // a region that no cell uses
-            lent.offsets.push(lent.bytes.len() as u64 + 1);
-            lent.lengths.push(0);
-        },
+        |lent| lent.row_lengths[0] = u64::MAX,
     ];
     for (index, change) in changes.iter().enumerate() {
         let mut lent = fare();
         change(&mut lent);
         assert_eq!(answer(&lent), refused_plainly(26), "change {index}");
     }
+    for (cause, change) in FAULTS {
+        assert_eq!(answer(&changed(change)), refused_plainly(26), "{cause}");
+    }
 }
 
+/// Faults that are none; the others are in `lent_lines.rs`.
 #[test]
 fn not_number_26() {
-    let changes: [fn(&mut Lent); 4] = [
-        |lent| lent.bytes.resize(61_440, b'z'),
-        |lent| {
-            lent.offsets.resize(1_024, 0);
-            lent.lengths.resize(1_024, 0);
-        },
-        |lent| {
-            // an empty part at the end of the bytes
-            lent.offsets.push(lent.bytes.len() as u64);
-            lent.lengths.push(0);
-        },
-        |lent| lent.bytes.push(0xFF),
-    ];
-    for change in changes {
-        let mut lent = fare();
-        change(&mut lent);
-        assert_eq!(answer(&lent), answer(&fare()));
+    let mut lent = fare();
+    lent.bytes.resize(61_440, b'z');
+    assert_eq!(answer(&lent), answer(&fare()));
+    for (what, change) in CHANGES {
+        assert_eq!(answer(&changed(change)), answer(&changed(|_| ())), "{what}");
     }
 }

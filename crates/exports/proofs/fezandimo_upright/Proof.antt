@@ -1,56 +1,14 @@
 -- `exports::fezandimo_upright` meets its contract.
-use mathlib.Core.Path.{_≡_, sym, ap, _∙_, subst}
-use mathlib.Core.List.{List}
-use Prim.Native.Nat.{ℕ}
-use lib.ListN.{length}
-use Rattle.lists.specs.Answer.{ok}
-use Rattle.cells.specs.Plane.{TextPlane, planeIn}
-use Rattle.cells.specs.Spans.{textsIn}
-use Rattle.lent.specs.Held.{loadedIn, LoadedHeld}
-use Rattle.lent.specs.LentPlane.{LentPlane, lentOf}
-use Rattle.lent.specs.declared.Loaded.{Loaded}
+use mathlib.Core.Path.{sym, ap, _∙_}
 use Rattle.plane.specs.Stated.{statedIn}
 use Rattle.plane.specs.declared.StatedSheet.{StatedSheet}
-use Rattle.exports.proofs.LentSheetLaws.{not-lent, lent-stated, refused-told, sheet-told}
+use Rattle.exports.proofs.AnswerLaws.{refused-told, sheet-told}
 use borrow.Author.Needs.{needs}
 use Rattle.exports.proofs.fezandimo_upright.Statement.{statement}
 use Rattle.exports.proofs.fezandimo_upright.Tie as tie
 
--- the plane that was loaded, by its places
-abbrev loaded : tie.After-known-told → tie.After-load
-loaded c = c .before .before .before .before .before .before .before
-
-abbrev start : tie.After-known-told → tie.Start
-start c = loaded c .before .before .before .before .before .before .before .before .before .before .before .before
-
-abbrev plane : tie.After-known-told → List ℕ
-plane c = loaded c .load .last .1 .1 .1 .1 .1 .1 .0
-
-abbrev spans : tie.After-known-told → List ℕ
-spans c = loaded c .load .last .1 .1 .1 .1 .1 .1 .1 .0
-
-abbrev lent : tie.After-known-told → LentPlane
-lent c =
-    let a = start c .args in
-    record { rows = a .rows .now; kinds = a .kinds .now; regions = a .regions .now; offsets = a .offsets .now; sizes = a .sizes .now; bytes = a .bytes .now }
-
-abbrev textPlane : tie.After-known-told → TextPlane
-textPlane c =
-    record { plane = planeIn (plane c) (c .before .n .given .0 .0); texts = textsIn (start c .args .bytes .now) (spans c) (length (start c .args .offsets .now)) }
-
-told : (c : tie.After-known-told) → ok (textPlane c) ≡ lentOf (lent c)
-told c = ap (λ (m : Loaded). loadedIn m (plane c) (start c .args .bytes .now) (spans c) (length (start c .args .offsets .now))) (sym (c .before .n .given .1)) ∙ loaded c .load .ensures .0
-
-load-requires : tie.Need-load-requires
-load-requires c κs = search needs
-
-enum-known-n : tie.Need-enum-known-n
-enum-known-n c = search needs
-
-upright-sheet-requires : tie.Need-upright-sheet-requires
-upright-sheet-requires c κs =
-    let k = c .before .before .before in
-    (subst (λ (m : Loaded). LoadedHeld m (plane k) (start k .args .bytes .now) (spans k) (length (start k .args .offsets .now))) (k .before .n .given .1) (loaded k .load .ensures .1), start k .pre .upright)
+lent-sheet-requires : tie.Need-lent-sheet-requires
+lent-sheet-requires c κs = search needs
 
 enum-known-s : tie.Need-enum-known-s
 enum-known-s c = search needs
@@ -64,12 +22,6 @@ enum-known-r c = search needs
 refusal-requires : tie.Need-refusal-requires
 refusal-requires c κs = search needs
 
-enum-known-r-2 : tie.Need-enum-known-r-2
-enum-known-r-2 c = search needs
-
-refusal-requires-2 : tie.Need-refusal-requires-2
-refusal-requires-2 c κs = search needs
-
 same-length : tie.Need-same-length
 same-length c = search needs
 
@@ -81,9 +33,8 @@ same-length-3 c = search needs
 
 returns : tie.Need-returns
 returns c =
-    let u = c .before .before .before .before .before .before in
-    let k = u .before .before .before .before in
-    sheet-told _ _ _ _ (lent-stated (lent k) (textPlane k) (told k) _ (ap (λ (m : StatedSheet). statedIn m (u .upright-sheet .last .1 .1 .1 .1 .1 .0)) (sym (c .before .before .s .given .1)) ∙ u .upright-sheet .ensures .0)) (c .sheet .ensures)
+    let u = c .before .before .before .before .before .before .before .before .before .before in
+    sheet-told _ _ _ _ (ap (λ (m : StatedSheet). statedIn m (u .lent-sheet .last .1 .1 .1 .1 .1 .1 .1 .1 .0)) (sym (c .before .before .s .given .1)) ∙ u .lent-sheet .ensures .0) (c .sheet .ensures)
 
 same-length-4 : tie.Need-same-length-4
 same-length-4 c = search needs
@@ -96,35 +47,18 @@ same-length-6 c = search needs
 
 returns-2 : tie.Need-returns-2
 returns-2 c =
-    let u = c .before .before .before .before .before .before in
-    let k = u .before .before .before .before in
-    refused-told _ _ _ _ (lent-stated (lent k) (textPlane k) (told k) _ (ap (λ (m : StatedSheet). statedIn m (u .upright-sheet .last .1 .1 .1 .1 .1 .0)) (sym (c .before .before .r .given .1)) ∙ u .upright-sheet .ensures .0)) (c .refusal .ensures)
-
-same-length-7 : tie.Need-same-length-7
-same-length-7 c = search needs
-
-same-length-8 : tie.Need-same-length-8
-same-length-8 c = search needs
-
-returns-3 : tie.Need-returns-3
-returns-3 c =
-    let g = c .before .before .before .before .before .before .before .before in
-    let a = g .before .before .before .before .before .before .before .before .before .before .before .before .args in
-    refused-told _ _ _ _ (not-lent _ _ (ap (λ (m : Loaded). loadedIn m (g .load .last .1 .1 .1 .1 .1 .1 .0) (a .bytes .now) (g .load .last .1 .1 .1 .1 .1 .1 .1 .0) (length (a .offsets .now))) (sym (c .before .before .r2 .given .1)) ∙ g .load .ensures .0)) (c .refusal2 .ensures)
+    let u = c .before .before .before .before .before .before .before .before .before .before in
+    refused-told _ _ _ _ (ap (λ (m : StatedSheet). statedIn m (u .lent-sheet .last .1 .1 .1 .1 .1 .1 .1 .1 .0)) (sym (c .before .before .r .given .1)) ∙ u .lent-sheet .ensures .0) (c .refusal .ensures)
 
 pub fezandimo-upright-spec : {M : Type 1} → statement M
 fezandimo-upright-spec =
     tie.close
     (tie.spec
-    load-requires
-    enum-known-n
-    upright-sheet-requires
+    lent-sheet-requires
     enum-known-s
     sheet-requires
     enum-known-r
     refusal-requires
-    enum-known-r-2
-    refusal-requires-2
     same-length
     same-length-2
     same-length-3
@@ -132,7 +66,4 @@ fezandimo-upright-spec =
     same-length-4
     same-length-5
     same-length-6
-    returns-2
-    same-length-7
-    same-length-8
-    returns-3)
+    returns-2)

@@ -1,5 +1,5 @@
 -- `exports::refusal` meets its contract.
-use Rattle.exports.specs.LentSheet.{answerOf}
+use Rattle.exports.specs.Answers.{answerOf}
 use borrow.Author.Needs.{needs}
 use Rattle.exports.proofs.refusal.Statement.{statement}
 use Rattle.exports.proofs.refusal.Tie as tie

@@ -1,13 +1,10 @@
 -- `print::put_count` meets its contract.
-use Rattle.print.specs.Drawings.{countLine}
+use Rattle.print.specs.Lines.{countLine}
 use Rattle.print.proofs.WrittenLaws.{written-then, written-within}
 use native.Mathlib.Omega.{arith}
 use borrow.Author.Needs.{needs}
 use Rattle.print.proofs.put_count.Statement.{statement}
 use Rattle.print.proofs.put_count.Tie as tie
-
-slice-aggregate-put-word : tie.Need-slice-aggregate-put-word
-slice-aggregate-put-word c = search needs
 
 put-word-requires : tie.Need-put-word-requires
 put-word-requires c κs = search needs
@@ -15,8 +12,8 @@ put-word-requires c κs = search needs
 put-number-requires : tie.Need-put-number-requires
 put-number-requires c κs = search needs
 
-slice-aggregate-put-word-2 : tie.Need-slice-aggregate-put-word-2
-slice-aggregate-put-word-2 c = search needs
+slice-aggregate-put-word : tie.Need-slice-aggregate-put-word
+slice-aggregate-put-word c = search needs
 
 put-word-requires-2 : tie.Need-put-word-requires-2
 put-word-requires-2 c κs = search needs
@@ -37,10 +34,9 @@ pub put-count-spec : {M : Type 1} → statement M
 put-count-spec =
     tie.close
     (tie.spec
-    slice-aggregate-put-word
     put-word-requires
     put-number-requires
-    slice-aggregate-put-word-2
+    slice-aggregate-put-word
     put-word-requires-2
     same-length
     returns)

@@ -1,7 +1,6 @@
 -- `replay::answer_line` meets its contract.
 use mathlib.Core.Path.{refl, sym}
 use Rattle.replay.proofs.Replaying.{answer-is, no-rest, answered-as}
-use native.Mathlib.Omega.{arith}
 use borrow.Author.Needs.{needs}
 use Rattle.replay.proofs.answer_line.Statement.{statement}
 use Rattle.replay.proofs.answer_line.Tie as tie
@@ -60,6 +59,21 @@ answer-drawing-requires c κs = search needs
 enum-told-3 : tie.Need-enum-told-3
 enum-told-3 c = search needs
 
+sub-answer-plane : tie.Need-sub-answer-plane
+sub-answer-plane c = search needs
+
+part-answer-plane-start : tie.Need-part-answer-plane-start
+part-answer-plane-start c = search needs
+
+part-answer-plane-end : tie.Need-part-answer-plane-end
+part-answer-plane-end c = search needs
+
+answer-plane-requires : tie.Need-answer-plane-requires
+answer-plane-requires c κs = search needs
+
+enum-told-4 : tie.Need-enum-told-4
+enum-told-4 c = search needs
+
 same-length : tie.Need-same-length
 same-length c = search needs
 
@@ -81,8 +95,17 @@ same-length-5 c = search needs
 returns-3 : tie.Need-returns-3
 returns-3 c = answered-as (c .before .before .before .before .answer-drawing .result) _ _ _ (c .before .before .before .before .answer-drawing .ensures) (answer-is (c .before .before .before .before .before .before .before .before .before .before .before .before .before .find .ensures) _ _ (c .before .before .before .before .before .before .before .before .before .before .kind-of .ensures) (c .before .before .before .before .before .before .before .before .enum-told2 .given .1))
 
+same-length-6 : tie.Need-same-length-6
+same-length-6 c = search needs
+
+same-length-7 : tie.Need-same-length-7
+same-length-7 c = search needs
+
 returns-4 : tie.Need-returns-4
-returns-4 c = (sym (answer-is (c .before .before .before .before .before .find .ensures) _ _ (c .before .before .kind-of .ensures) (c .enum-told3 .given .1)), refl)
+returns-4 c = answered-as (c .before .before .before .before .answer-plane .result) _ _ _ (c .before .before .before .before .answer-plane .ensures) (answer-is (c .before .before .before .before .before .before .before .before .before .before .before .before .before .find .ensures) _ _ (c .before .before .before .before .before .before .before .before .before .before .kind-of .ensures) (c .before .before .before .before .before .before .before .before .enum-told3 .given .1))
+
+returns-5 : tie.Need-returns-5
+returns-5 c = (sym (answer-is (c .before .before .before .before .before .find .ensures) _ _ (c .before .before .kind-of .ensures) (c .enum-told4 .given .1)), refl)
 
 pub answer-line-spec : {M : Type 1} → statement M
 answer-line-spec =
@@ -106,6 +129,11 @@ answer-line-spec =
     part-answer-drawing-end
     answer-drawing-requires
     enum-told-3
+    sub-answer-plane
+    part-answer-plane-start
+    part-answer-plane-end
+    answer-plane-requires
+    enum-told-4
     same-length
     same-length-2
     same-length-3
@@ -113,4 +141,7 @@ answer-line-spec =
     same-length-4
     same-length-5
     returns-3
-    returns-4)
+    same-length-6
+    same-length-7
+    returns-4
+    returns-5)

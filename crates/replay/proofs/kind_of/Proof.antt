@@ -1,7 +1,6 @@
 -- `replay::kind_of` meets its contract.
 use mathlib.Core.Path.{_∙_}
-use Rattle.replay.proofs.KindLaws.{is-word, kind-split, kind-drawing, kind-unknown}
-use native.Mathlib.Omega.{arith}
+use Rattle.replay.proofs.KindLaws.{is-word, kind-split, kind-drawing, kind-plane, kind-unknown}
 use borrow.Author.Needs.{needs}
 use Rattle.replay.proofs.kind_of.Statement.{statement}
 use Rattle.replay.proofs.kind_of.Tie as tie
@@ -24,8 +23,17 @@ same-requires-2 c κs = search needs
 returns-2 : tie.Need-returns-2
 returns-2 c = kind-drawing _ (is-word _ _ _ (c .before .before .before .before .same .ensures) ∙ c .before .before .before .if1 .left) (is-word _ _ _ (c .before .same2 .ensures) ∙ c .if2 .taken)
 
+slice-aggregate-same-3 : tie.Need-slice-aggregate-same-3
+slice-aggregate-same-3 c = search needs
+
+same-requires-3 : tie.Need-same-requires-3
+same-requires-3 c κs = search needs
+
 returns-3 : tie.Need-returns-3
-returns-3 c = kind-unknown _ (is-word _ _ _ (c .before .before .before .before .same .ensures) ∙ c .before .before .before .if1 .left) (is-word _ _ _ (c .before .same2 .ensures) ∙ c .if2 .left)
+returns-3 c = kind-plane _ (is-word _ _ _ (c .before .before .before .before .before .before .before .same .ensures) ∙ c .before .before .before .before .before .before .if1 .left) (is-word _ _ _ (c .before .before .before .before .same2 .ensures) ∙ c .before .before .before .if2 .left) (is-word _ _ _ (c .before .same3 .ensures) ∙ c .if3 .taken)
+
+returns-4 : tie.Need-returns-4
+returns-4 c = kind-unknown _ (is-word _ _ _ (c .before .before .before .before .before .before .before .same .ensures) ∙ c .before .before .before .before .before .before .if1 .left) (is-word _ _ _ (c .before .before .before .before .same2 .ensures) ∙ c .before .before .before .if2 .left) (is-word _ _ _ (c .before .same3 .ensures) ∙ c .if3 .left)
 
 pub kind-of-spec : {M : Type 1} → statement M
 kind-of-spec =
@@ -37,4 +45,7 @@ kind-of-spec =
     slice-aggregate-same-2
     same-requires-2
     returns-2
-    returns-3)
+    slice-aggregate-same-3
+    same-requires-3
+    returns-3
+    returns-4)

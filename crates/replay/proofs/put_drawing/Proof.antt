@@ -37,7 +37,8 @@ slice-aggregate-put-layers-4 : tie.Need-slice-aggregate-put-layers-4
 slice-aggregate-put-layers-4 c = search needs
 
 put-layers-requires : tie.Need-put-layers-requires
-put-layers-requires c κs = let q = c .before .before .before .before .before .before .before .before .before .before .before .before in
+put-layers-requires c κs =
+    let q = c .before .before .before .before .before .before .before .before .before .before .before .before in
     let e = q .before .before .before .before .before .before .before in (
       omega (arith, e .pre),
       (drawn-layer (e .args .s .now) _ (q .draw-sheet .ensures .0) _ _ _ _ (q .draw-sheet .ensures .1 .0) (c .before .before .before .before .before .before .h .given .1) _ (omega (arith, q .draw-sheet .kept .1 .0))),
@@ -52,13 +53,18 @@ slice-aggregate-put-regions c = search needs
 slice-aggregate-put-regions-2 : tie.Need-slice-aggregate-put-regions-2
 slice-aggregate-put-regions-2 c = search needs
 
+slice-aggregate-put-regions-3 : tie.Need-slice-aggregate-put-regions-3
+slice-aggregate-put-regions-3 c = search needs
+
 put-regions-requires : tie.Need-put-regions-requires
-put-regions-requires c κs = let p = c .before .before .before .before .before in
-    let q = c .before .before .before .before .before .before .before .before .before .before .before .before .before .before .before .before .before .before in
+put-regions-requires c κs =
+    let p = c .before .before .before .before .before .before in
+    let q = c .before .before .before .before .before .before .before .before .before .before .before .before .before .before .before .before .before .before .before in
     let e = q .before .before .before .before .before .before .before in (
       omega (arith, p .put-layers .ensures .short, p .put-layers .kept .0, e .pre),
-      (drawn-layer (e .args .s .now) _ (q .draw-sheet .ensures .0) _ _ _ _ (q .draw-sheet .ensures .1 .0) (c .before .before .before .before .before .before .before .before .before .before .before .before .h .given .1) _ (omega (arith, q .draw-sheet .kept .1 .0))),
-      (drawn-layer (e .args .s .now) _ (q .draw-sheet .ensures .0) _ _ _ _ (q .draw-sheet .ensures .1 .0) (c .before .before .before .before .before .before .before .before .before .before .before .before .h .given .1) _ (omega (arith, q .draw-sheet .kept .1 .1 .0))),
+      (drawn-layer (e .args .s .now) _ (q .draw-sheet .ensures .0) _ _ _ _ (q .draw-sheet .ensures .1 .0) (c .before .before .before .before .before .before .before .before .before .before .before .before .before .h .given .1) _ (omega (arith, q .draw-sheet .kept .1 .0))),
+      (drawn-layer (e .args .s .now) _ (q .draw-sheet .ensures .0) _ _ _ _ (q .draw-sheet .ensures .1 .0) (c .before .before .before .before .before .before .before .before .before .before .before .before .before .h .given .1) _ (omega (arith, q .draw-sheet .kept .1 .1 .0))),
+      (drawn-layer (e .args .s .now) _ (q .draw-sheet .ensures .0) _ _ _ _ (q .draw-sheet .ensures .1 .0) (c .before .before .before .before .before .before .before .before .before .before .before .before .before .h .given .1) _ (omega (arith, q .draw-sheet .kept .1 .1 .1 .1 .0))),
     )
 
 enum-known-r : tie.Need-enum-known-r
@@ -71,20 +77,22 @@ same-length : tie.Need-same-length
 same-length c = search needs
 
 returns : tie.Need-returns
-returns c = let p = c .before .before .before .before .before .before .before .before in
-    let q = c .before .before .before .before .before .before .before .before .before .before .before .before .before .before .before .before .before .before .before .before .before in
+returns c =
+    let p = c .before .before .before .before .before .before .before .before .before in
+    let q = c .before .before .before .before .before .before .before .before .before .before .before .before .before .before .before .before .before .before .before .before .before .before in
     let e = q .before .before .before .before .before .before .before in
     let w = p .put-layers .ensures in
     written-within
     (written-as (written-then w (c .before .before .put-regions .ensures) (omega (arith, w .short, e .pre)))
-    (drawn-lines (e .args .s .now) _ (q .draw-sheet .ensures .0) _ _ _ _ (q .draw-sheet .ensures .1 .0) (c .before .before .before .before .before .before .before .before .before .before .before .before .before .before .before .h .given .1)))
+    (drawn-lines (e .args .s .now) _ (q .draw-sheet .ensures .0) _ _ _ _ (q .draw-sheet .ensures .1 .0) (c .before .before .before .before .before .before .before .before .before .before .before .before .before .before .before .before .h .given .1)))
     (omega arith)
 
 same-length-2 : tie.Need-same-length-2
 same-length-2 c = search needs
 
 returns-2 : tie.Need-returns-2
-returns-2 c = let q = c .before .before .before .before .before .before .before .before .before .before .before in
+returns-2 c =
+    let q = c .before .before .before .before .before .before .before .before .before .before .before in
     let e = q .before .before .before .before .before .before .before in
     written-within (written-as (c .before .before .put-refusal .ensures) (not-drawn (e .args .s .now) _ (q .draw-sheet .ensures .0) (c .before .before .before .before .before .r .given .1))) (omega arith)
 
@@ -105,6 +113,7 @@ put-drawing-spec =
     put-layers-requires
     slice-aggregate-put-regions
     slice-aggregate-put-regions-2
+    slice-aggregate-put-regions-3
     put-regions-requires
     enum-known-r
     put-refusal-requires

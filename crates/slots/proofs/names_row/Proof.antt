@@ -1,7 +1,7 @@
 -- `slots::names_row` meets its contract.
-use Rattle.lists.proofs.Tests.{choose-on, choose-off}
 use mathlib.Core.Path.{sym, _∙_}
 use borrow.Author.Needs.{needs}
+use Rattle.lists.proofs.Tests.{choose-on, choose-off}
 use Rattle.slots.proofs.names_row.Statement.{statement}
 use Rattle.slots.proofs.names_row.Tie as tie
 

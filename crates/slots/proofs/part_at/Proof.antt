@@ -1,20 +1,26 @@
 -- `slots::part_at` meets its contract.
-use Rattle.slots.proofs.CellTexts.{region-among, read-text, unread-text}
-use Rattle.clauses.specs.SheetCells.{regionAt}
-use Rattle.cells.specs.Plane.{planeIn}
-use Rattle.lists.specs.Answer.{ok}
-use Prim.Native.Nat.{_<_}
 use mathlib.Core.Path.{_≡_}
+use Prim.Native.Nat.{ℕ, _<_}
 use native.Mathlib.Omega.{arith}
 use borrow.Author.Needs.{needs}
+use Rattle.lists.specs.Answer.{ok}
+use Rattle.cells.specs.Plane.{planeIn}
+use Rattle.clauses.specs.SheetCells.{regionAt}
+use Rattle.slots.proofs.CellTexts.{region-among, read-text, unread-text}
 use Rattle.slots.proofs.part_at.Statement.{statement}
 use Rattle.slots.proofs.part_at.Tie as tie
 
-found : (c : tie.After-known-told) → ok (c .before .k .given .0 .0) ≡ regionAt (planeIn (c .before .before .before .before .before .before .before .args .plane .now) (c .before .before .before .before .before .before .before .args .rows)) (c .before .before .before .before .before .before .before .args .y) (c .before .before .before .before .before .before .before .args .x)
+abbrev start : tie.After-known-told → tie.Start
+start c = c .before .before .before .before .before .before .before
+
+abbrev number : tie.After-known-told → ℕ
+number c = c .before .k .given .0 .0
+
+found : (c : tie.After-known-told) → let a = start c .args in ok (number c) ≡ regionAt (planeIn (a .plane .now) (a .rows)) (a .y) (a .x)
 found c = rw (c .before .k .given .1) at (c .before .before .before .region-at .ensures)
 
-among : (c : tie.After-known-told) → c .before .k .given .0 .0 < c .before .before .before .before .before .before .before .args .count
-among c = region-among (c .before .before .before .before .before .before .before .pre .held) _ _ (c .before .k .given .0 .0) (found c)
+among : (c : tie.After-known-told) → number c < start c .args .count
+among c = region-among (start c .pre .held) _ _ (number c) (found c)
 
 region-at-requires : tie.Need-region-at-requires
 region-at-requires c κs = search needs
@@ -23,33 +29,34 @@ enum-known-k : tie.Need-enum-known-k
 enum-known-k c = search needs
 
 mul-t11 : tie.Need-mul-t11
-mul-t11 c = omega (arith, among c, c .before .before .before .before .before .before .before .pre .held .twoEach)
+mul-t11 c = omega (arith, among c, start c .pre .held .twoEach)
 
 mul-t12 : tie.Need-mul-t12
-mul-t12 c = omega (arith, among c, c .before .before .before .before .before .before .before .pre .held .twoEach)
+mul-t12 c = omega (arith, among c, start c .pre .held .twoEach)
 
 shared-slice-read-t14 : tie.Need-shared-slice-read-t14
-shared-slice-read-t14 c = omega (arith, among (c .before), c .before .before .before .before .before .before .before .before .pre .held .twoEach)
+shared-slice-read-t14 c = omega (arith, among (c .before), start (c .before) .pre .held .twoEach)
 
 mul-t15 : tie.Need-mul-t15
-mul-t15 c = omega (arith, among (c .before), c .before .before .before .before .before .before .before .before .pre .held .twoEach)
+mul-t15 c = omega (arith, among (c .before), start (c .before) .pre .held .twoEach)
 
 add-t16 : tie.Need-add-t16
-add-t16 c = omega (arith, among (c .before), c .before .before .before .before .before .before .before .before .pre .held .twoEach)
+add-t16 c = omega (arith, among (c .before), start (c .before) .pre .held .twoEach)
 
 mul-t17 : tie.Need-mul-t17
-mul-t17 c = omega (arith, among (c .before), c .before .before .before .before .before .before .before .before .pre .held .twoEach)
+mul-t17 c = omega (arith, among (c .before), start (c .before) .pre .held .twoEach)
 
 shared-slice-read-t19 : tie.Need-shared-slice-read-t19
-shared-slice-read-t19 c = omega (arith, among (c .before .before), c .before .before .before .before .before .before .before .before .before .pre .held .twoEach)
+shared-slice-read-t19 c = omega (arith, among (c .before .before), start (c .before .before) .pre .held .twoEach)
 
 enum-told : tie.Need-enum-told
 enum-told c = search needs
 
 returns : tie.Need-returns
 returns c =
-    let t = c .before .before .before .before .before .before .before .before .before .pre in
-    (read-text (t .held) _ _ (c .before .before .before .k .given .0 .0) (found (c .before .before)), record { inside = t .held .inside (c .before .before .before .k .given .0 .0) (among (c .before .before)); few = t .few })
+    let k = c .before .before in
+    let t = start k .pre in
+    (read-text (t .held) _ _ (number k) (found k), record { inside = t .held .inside (number k) (among k); few = t .few })
 
 returns-2 : tie.Need-returns-2
 returns-2 c =

@@ -1,9 +1,9 @@
 -- `slots::put_absent` meets its contract.
-use Rattle.slots.proofs.SpeltLaws.{spelt-one}
-use mathlib.Core.Option.{none}
 use mathlib.Core.Path.{refl}
+use mathlib.Core.Option.{none}
 use native.Mathlib.Omega.{arith}
 use borrow.Author.Needs.{needs}
+use Rattle.slots.proofs.SpeltLaws.{spelt-one}
 use Rattle.slots.proofs.put_absent.Statement.{statement}
 use Rattle.slots.proofs.put_absent.Tie as tie
 

@@ -1,12 +1,31 @@
 -- `slots::put_input` meets its contract.
-use Rattle.slots.proofs.SpeltLaws.{spelt-then, spelt-text, optional-on, room-next}
-use Rattle.lists.proofs.Tests.{choose-off}
-use mathlib.Core.Option.{none, some}
 use mathlib.Core.Path.{refl, sym, ap}
+use mathlib.Core.List.{[], _∷_}
+use mathlib.Core.Option.{none, some}
 use native.Mathlib.Omega.{arith}
 use borrow.Author.Needs.{needs}
+use Rattle.lists.proofs.Tests.{choose-off}
+use Rattle.cells.specs.Plane.{planeIn}
+use Rattle.cells.specs.Spans.{textIn}
+use Rattle.clauses.specs.Spelled.{whole}
+use Rattle.slots.specs.Spelt.{Room, Spelt}
+use Rattle.slots.proofs.SpeltLaws.{spelt-then, spelt-text, optional-on, room-next}
 use Rattle.slots.proofs.put_input.Statement.{statement}
 use Rattle.slots.proofs.put_input.Tie as tie
+
+abbrev start : tie.After-put-part → tie.Start
+start c = c .before .before .before .before .before .before .before
+
+-- the expression is written
+written : (c : tie.After-put-part) → let a = start c .args in
+    Spelt (a .bytes .now) (a .slots .now) (c .put-part .last .0) (a .from) (c .put-part .result)
+    (whole (textIn (a .bytes .now) (a .spans .now) (a .count)) (planeIn (a .plane .now) (a .rows)) 0 (a .i) ∷ [])
+written c =
+    let p = c .before .before .part-at .ensures in
+    spelt-text (c .put-part .ensures (start c .args .bytes .now) (p .1)) (ap some (p .0))
+
+room-behind : (c : tie.After-put-part) → Room (c .put-part .result) 1 (c .put-part .last .0)
+room-behind c = room-next (start c .pre .1) (written c) refl (omega arith) (c .put-part .kept .0)
 
 part-at-requires : tie.Need-part-at-requires
 part-at-requires c κs = search needs
@@ -21,35 +40,28 @@ part-at-requires-2 : tie.Need-part-at-requires-2
 part-at-requires-2 c κs = search needs
 
 put-optional-requires : tie.Need-put-optional-requires
-put-optional-requires c κs =
-    let s = c .before .before .before .before .before .before .before .before .before .before .before .before .before in
-    room-next 2 1 1 (s .pre .1) (c .before .before .before .before .before .before .put-part .ensures (s .args .bytes .now) (c .before .before .before .before .before .before .before .before .part-at .ensures .1)) refl (omega arith) (c .before .before .before .before .before .before .put-part .kept .0)
+put-optional-requires c κs = room-behind (c .before .before .before .before .before .before)
 
 same-length : tie.Need-same-length
 same-length c = search needs
 
 returns : tie.Need-returns
 returns c =
-    let s = c .before .before .before .before .before .before .before .before .before .before .before .before .before .before .before .before in
-    let a = c .before .before .before .before .before .before .before .before .before .before .before .part-at .ensures in
+    let w = c .before .before .before .before .before .before .before .before .before in
     let v = c .before .before .before .before .part-at2 .ensures in
-    spelt-then (spelt-text (c .before .before .before .before .before .before .before .before .before .put-part .ensures (s .args .bytes .now) (a .1)) (ap some (a .0)))
-    (spelt-text (c .before .before .put-optional .ensures (s .args .bytes .now) (v .1)) (optional-on none (rw (c .before .before .before .before .before .above .ensures) at (v .0)) (c .before .before .before .before .before .before .if1 .taken)))
+    let e = rw (c .before .before .before .before .before .above .ensures) at (v .0) in
+    spelt-then (written w) (spelt-text (c .before .before .put-optional .ensures (start w .args .bytes .now) (v .1)) (optional-on none e (c .before .before .before .before .before .before .if1 .taken)))
 
 put-absent-requires : tie.Need-put-absent-requires
-put-absent-requires c κs =
-    let s = c .before .before .before .before .before .before .before .before .before .before .before in
-    room-next 2 1 1 (s .pre .1) (c .before .before .before .before .put-part .ensures (s .args .bytes .now) (c .before .before .before .before .before .before .part-at .ensures .1)) refl (omega arith) (c .before .before .before .before .put-part .kept .0)
+put-absent-requires c κs = room-behind (c .before .before .before .before)
 
 same-length-2 : tie.Need-same-length-2
 same-length-2 c = search needs
 
 returns-2 : tie.Need-returns-2
 returns-2 c =
-    let s = c .before .before .before .before .before .before .before .before .before .before .before .before .before .before in
-    let a = c .before .before .before .before .before .before .before .before .before .part-at .ensures in
-    spelt-then (spelt-text (c .before .before .before .before .before .before .before .put-part .ensures (s .args .bytes .now) (a .1)) (ap some (a .0)))
-    (spelt-text (c .before .before .put-absent .ensures (s .args .bytes .now)) (sym (choose-off _ _ _ (c .before .before .before .before .if1 .left))))
+    let w = c .before .before .before .before .before .before .before in
+    spelt-then (written w) (spelt-text (c .before .before .put-absent .ensures (start w .args .bytes .now)) (sym (choose-off _ _ _ (c .before .before .before .before .if1 .left))))
 
 pub put-input-spec : {M : Type 1} → statement M
 put-input-spec =

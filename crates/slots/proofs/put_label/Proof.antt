@@ -1,9 +1,9 @@
 -- `slots::put_label` meets its contract.
-use Rattle.slots.proofs.SpeltLaws.{spelt-text, optional-on}
-use Rattle.lists.proofs.Tests.{choose-off}
-use mathlib.Core.Option.{none}
 use mathlib.Core.Path.{sym}
+use mathlib.Core.Option.{none}
 use borrow.Author.Needs.{needs}
+use Rattle.lists.proofs.Tests.{choose-off}
+use Rattle.slots.proofs.SpeltLaws.{spelt-text, optional-on}
 use Rattle.slots.proofs.put_label.Statement.{statement}
 use Rattle.slots.proofs.put_label.Tie as tie
 
@@ -21,9 +21,9 @@ same-length c = search needs
 
 returns : tie.Need-returns
 returns c =
-    let s = c .before .before .before .before .before .before .before .before .before .before .before .before in
     let p = c .before .before .before .before .part-at .ensures in
-    spelt-text (c .before .before .put-optional .ensures (s .args .bytes .now) (p .1)) (optional-on none (p .0) (c .before .before .before .before .before .before .if1 .taken))
+    spelt-text (c .before .before .put-optional .ensures (c .before .before .before .before .before .before .before .before .before .before .before .before .args .bytes .now) (p .1))
+    (optional-on none (p .0) (c .before .before .before .before .before .before .if1 .taken))
 
 put-absent-requires : tie.Need-put-absent-requires
 put-absent-requires c κs = search needs

@@ -1,10 +1,25 @@
 -- `slots::put_name` meets its contract.
-use Rattle.slots.proofs.SpeltLaws.{spelt-text, optional-on}
-use Rattle.lists.proofs.Tests.{choose-off}
-use mathlib.Core.Path.{sym}
+use mathlib.Core.Path.{_≡_, sym}
+use Prim.Native.Nat.{_+_}
 use borrow.Author.Needs.{needs}
+use Rattle.lists.proofs.Tests.{choose-off}
+use Rattle.cells.specs.Plane.{planeIn}
+use Rattle.cells.specs.Spans.{textIn}
+use Rattle.clauses.specs.Spelled.{cellText, namesRow}
+use Rattle.slots.specs.Spelt.{partOf}
+use Rattle.slots.proofs.SpeltLaws.{spelt-text, optional-on}
 use Rattle.slots.proofs.put_name.Statement.{statement}
 use Rattle.slots.proofs.put_name.Tie as tie
+
+abbrev start : tie.After-part-at → tie.Start
+start c = c .before .before .before .before .before .before .before .before .before
+
+-- the part is the name's
+named : (c : tie.After-part-at) → let a = start c .args in
+    let text = textIn (a .bytes .now) (a .spans .now) (a .count) in
+    let plane = planeIn (a .plane .now) (a .rows) in
+    partOf (a .bytes .now) (c .part-at .result) ≡ cellText text plane (namesRow text plane (a .s)) (a .s .inputs + 1 + a .j)
+named c = rw (c .before .names-row .ensures) at (c .part-at .ensures .0)
 
 add-x : tie.Need-add-x
 add-x c = search needs
@@ -26,9 +41,8 @@ same-length c = search needs
 
 returns : tie.Need-returns
 returns c =
-    let s = c .before .before .before .before .before .before .before .before .before .before .before .before .before in
-    let p = c .before .before .before .before .part-at .ensures in
-    spelt-text (c .before .before .put-optional .ensures (s .args .bytes .now) (p .1)) (optional-on _ (rw (c .before .before .before .before .before .names-row .ensures) at (p .0)) (c .before .before .before .before .before .before .before .if1 .taken))
+    let n = c .before .before .before .before in
+    spelt-text (c .before .before .put-optional .ensures (start n .args .bytes .now) (n .part-at .ensures .1)) (optional-on _ (named n) (c .before .before .before .before .before .before .before .if1 .taken))
 
 put-label-requires : tie.Need-put-label-requires
 put-label-requires c κs = search needs

@@ -1,9 +1,9 @@
 -- `slots::put_no_values` meets its contract.
-use Rattle.slots.proofs.SpeltLaws.{room-next, spelt-then}
-use mathlib.Core.List.{[]}
 use mathlib.Core.Path.{refl}
+use mathlib.Core.List.{[]}
 use native.Mathlib.Omega.{arith}
 use borrow.Author.Needs.{needs}
+use Rattle.slots.proofs.SpeltLaws.{room-next, spelt-then}
 use Rattle.slots.proofs.put_no_values.Statement.{statement}
 use Rattle.slots.proofs.put_no_values.Tie as tie
 
@@ -11,7 +11,7 @@ put-absent-requires : tie.Need-put-absent-requires
 put-absent-requires c κs = search needs
 
 put-absent-requires-2 : tie.Need-put-absent-requires-2
-put-absent-requires-2 c κs = room-next 2 1 1 (c .before .before .before .before .before .before .pre) (c .before .before .before .put-absent .ensures []) refl (omega arith) (c .before .before .before .put-absent .kept .0)
+put-absent-requires-2 c κs = room-next (c .before .before .before .before .before .before .pre) (c .before .before .before .put-absent .ensures []) refl (omega arith) (c .before .before .before .put-absent .kept .0)
 
 same-length : tie.Need-same-length
 same-length c = search needs

@@ -1,8 +1,8 @@
 -- `slots::put_optional` meets its contract.
-use Rattle.slots.proofs.SpeltLaws.{part-none, part-some, spelt-text}
 use mathlib.Core.Path.{sym}
 use native.Mathlib.Omega.{arith}
 use borrow.Author.Needs.{needs}
+use Rattle.slots.proofs.SpeltLaws.{part-none, part-some, spelt-text}
 use Rattle.slots.proofs.put_optional.Statement.{statement}
 use Rattle.slots.proofs.put_optional.Tie as tie
 
@@ -13,7 +13,8 @@ same-length : tie.Need-same-length
 same-length c = search needs
 
 returns : tie.Need-returns
-returns c = λ bytes i. spelt-text (c .before .before .put-absent .ensures bytes) (sym (part-none bytes (c .before .before .before .before .before .before .before .args .p) (c .before .before .before .before .if1 .taken)))
+returns c =
+    λ bytes i. spelt-text (c .before .before .put-absent .ensures bytes) (sym (part-none bytes (c .before .before .before .before .before .before .before .args .p) (c .before .before .before .before .if1 .taken)))
 
 put-part-requires : tie.Need-put-part-requires
 put-part-requires c κs = search needs

@@ -1,12 +1,12 @@
 -- `slots::put_outputs` meets its contract.
 use mathlib.Core.Path.{refl}
 use Prim.Native.Nat.{_-_}
+use native.Mathlib.Omega.{arith}
+use borrow.Author.Needs.{needs}
 use Rattle.cells.specs.Plane.{planeIn}
 use Rattle.cells.specs.Spans.{textIn}
 use Rattle.clauses.specs.Spelled.{joinRun, outputText}
 use Rattle.slots.proofs.SpeltLaws.{Turning, turning-start, turning-room, turning-more, turning-end, join-more}
-use native.Mathlib.Omega.{arith}
-use borrow.Author.Needs.{needs}
 use Rattle.slots.proofs.put_outputs.Statement.{statement}
 use Rattle.slots.proofs.put_outputs.Tie as tie
 
@@ -24,7 +24,9 @@ unfolding joinRun
 loop-holds c = turning-start _ _ _ _ 3 _ _ (c .before .before .before .before .pre .1) (omega arith) refl
 
 put-output-requires : tie.Need-put-output-requires Inv-loop μ-loop
-put-output-requires c κs = (c .before .before .before .before .before .before .before .before .pre .0, turning-room (c .before .before .before .loop .inv) (c .before .if1 .taken), omega (arith, c .before .if1 .taken, c .before .before .before .before .before .before .before .before .pre .2))
+put-output-requires c κs =
+    let s = c .before .before .before .before .before .before .before .before in
+    (s .pre .0, turning-room (c .before .before .before .loop .inv) (c .before .if1 .taken), omega (arith, c .before .if1 .taken, s .pre .2))
 
 add-j : tie.Need-add-j Inv-loop μ-loop
 add-j c = search needs
@@ -33,7 +35,9 @@ loop-less : tie.Need-loop-less Inv-loop μ-loop
 loop-less c = search needs
 
 loop-again : tie.Need-loop-again Inv-loop μ-loop
-loop-again c = turning-more (c .before .before .before .before .before .before .loop .inv) (c .before .before .before .before .if1 .taken) (c .before .before .put-output .ensures) refl (join-more _ _) (c .before .before .put-output .kept .1 .1 .1 .1 .1 .0)
+loop-again c =
+    let r = c .before .before in
+    turning-more (c .before .before .before .before .before .before .loop .inv) (c .before .before .before .before .if1 .taken) (r .put-output .ensures) refl (join-more _ _) (r .put-output .kept .1 .1 .1 .1 .1 .0)
 
 same-length : tie.Need-same-length Inv-loop μ-loop
 same-length c = c .before .before .loop .inv .long

@@ -1,10 +1,10 @@
 -- `slots::put_part` meets its contract.
-use Rattle.slots.proofs.SpeltLaws.{part-length, spelt-one}
-use Rattle.slots.specs.Spelt.{partOf}
-use mathlib.Core.Option.{some}
 use mathlib.Core.Path.{refl}
+use mathlib.Core.Option.{some}
 use native.Mathlib.Omega.{arith}
 use borrow.Author.Needs.{needs}
+use Rattle.slots.specs.Spelt.{partOf}
+use Rattle.slots.proofs.SpeltLaws.{part-length, spelt-one}
 use Rattle.slots.proofs.put_part.Statement.{statement}
 use Rattle.slots.proofs.put_part.Tie as tie
 

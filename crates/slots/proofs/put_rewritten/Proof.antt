@@ -1,12 +1,12 @@
 -- `slots::put_rewritten` meets its contract.
-use Rattle.slots.proofs.SpeltLaws.{spelt-one}
-use Rattle.slots.specs.Spelt.{partOf}
-use Rattle.utils.specs.Split.{valuesOf}
-use Prim.Native.Nat.{ℕ, _+_}
-use mathlib.Core.Option.{some}
 use mathlib.Core.Path.{refl, ap}
+use mathlib.Core.Option.{some}
+use Prim.Native.Nat.{ℕ, _+_}
 use native.Mathlib.Omega.{arith}
 use borrow.Author.Needs.{needs}
+use Rattle.utils.specs.Split.{valuesOf}
+use Rattle.slots.specs.Spelt.{partOf}
+use Rattle.slots.proofs.SpeltLaws.{spelt-one}
 use Rattle.slots.proofs.put_rewritten.Statement.{statement}
 use Rattle.slots.proofs.put_rewritten.Tie as tie
 

@@ -1,14 +1,14 @@
 -- `slots::put_row` meets its contract.
-use Rattle.lists.specs.Run.{run}
-use mathlib.Core.Option.{some}
 use mathlib.Core.Path.{refl, ap}
+use mathlib.Core.Option.{some}
 use Prim.Native.Nat.{_-_}
+use native.Mathlib.Omega.{arith}
+use borrow.Author.Needs.{needs}
+use Rattle.lists.specs.Run.{run}
 use Rattle.cells.specs.Plane.{planeIn}
 use Rattle.cells.specs.Spans.{textIn}
 use Rattle.clauses.specs.Spelled.{rowTexts}
 use Rattle.slots.proofs.SpeltLaws.{Turning, turning-start, turning-room, turning-more, turning-end, run-more, spelt-text}
-use native.Mathlib.Omega.{arith}
-use borrow.Author.Needs.{needs}
 use Rattle.slots.proofs.put_row.Statement.{statement}
 use Rattle.slots.proofs.put_row.Tie as tie
 
@@ -42,10 +42,10 @@ loop-less c = search needs
 
 loop-again : tie.Need-loop-again Inv-loop μ-loop
 loop-again c =
-    let s = c .before .before .before .before .before .before .before .before .before .before .before in
     let p = c .before .before .before .before .part-at .ensures in
-    turning-more (c .before .before .before .before .before .before .loop .inv) (c .before .before .before .before .before .loop-test .taken) (spelt-text (c .before .before .put-part .ensures (s .args .bytes .now) (p .1)) (ap some (p .0))) refl
-    (run-more _ _ _) (c .before .before .put-part .kept .0)
+    let w = spelt-text (c .before .before .put-part .ensures (c .before .before .before .before .before .before .before .before .before .before .before .args .bytes .now) (p .1)) (ap some (p .0)) in
+    turning-more (c .before .before .before .before .before .before .loop .inv) (c .before .before .before .before .before .loop-test .taken) w refl (run-more _ _ _)
+    (c .before .before .put-part .kept .0)
 
 same-length : tie.Need-same-length Inv-loop μ-loop
 same-length c = c .before .loop .inv .long

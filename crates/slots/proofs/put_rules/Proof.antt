@@ -1,13 +1,13 @@
 -- `slots::put_rules` meets its contract.
-use Rattle.slots.proofs.ShapeRoom.{forRule, fewer-rules, entry-length}
-use Rattle.slots.proofs.SpeltLaws.{Turning, turning-start, turning-room, turning-more, turning-end, join-more}
-use Rattle.clauses.specs.Spelled.{joinRun, entryTexts}
-use Rattle.cells.specs.Spans.{textIn}
-use Rattle.cells.specs.Plane.{planeIn}
 use mathlib.Core.Path.{refl}
-use Prim.Native.Nat.{_+_, _-_}
+use Prim.Native.Nat.{_-_}
 use native.Mathlib.Omega.{arith}
 use borrow.Author.Needs.{needs}
+use Rattle.cells.specs.Spans.{textIn}
+use Rattle.cells.specs.Plane.{planeIn}
+use Rattle.clauses.specs.Spelled.{joinRun, entryTexts}
+use Rattle.slots.proofs.ShapeRoom.{forRule, fewer-rules, entry-length}
+use Rattle.slots.proofs.SpeltLaws.{Turning, turning-start, turning-room, turning-more, turning-end, join-more}
 use Rattle.slots.proofs.put_rules.Statement.{statement}
 use Rattle.slots.proofs.put_rules.Tie as tie
 
@@ -27,7 +27,8 @@ loop-holds c = turning-start _ _ _ _ (forRule (c .before .before .before .before
 put-rule-requires : tie.Need-put-rule-requires Inv-loop μ-loop
 put-rule-requires c κs =
     let s = c .before .before .before .before .before .before .before in
-    (s .pre .0, turning-room (c .before .before .loop .inv) (c .before .loop-test .taken), fewer-rules (c .before .before .loop .i + 1) (s .args .rules) (s .pre .2) (omega (arith, c .before .loop-test .taken)))
+    let t = c .before .loop-test .taken in
+    (s .pre .0, turning-room (c .before .before .loop .inv) t, fewer-rules (s .pre .2) (omega (arith, t)))
 
 add-i : tie.Need-add-i Inv-loop μ-loop
 add-i c = search needs
@@ -37,8 +38,9 @@ loop-less c = search needs
 
 loop-again : tie.Need-loop-again Inv-loop μ-loop
 loop-again c =
-    turning-more (c .before .before .before .before .before .loop .inv) (c .before .before .before .before .loop-test .taken) (c .before .before .put-rule .ensures) (entry-length _ _ (c .before .before .before .before .before .before .before .before .before .before .args .s) _) (join-more _ _)
-    (c .before .before .put-rule .kept .1 .1 .1 .1 .1 .0)
+    let r = c .before .before in
+    turning-more (c .before .before .before .before .before .loop .inv) (c .before .before .before .before .loop-test .taken) (r .put-rule .ensures)
+    (entry-length _ _ (c .before .before .before .before .before .before .before .before .before .before .args .s) _) (join-more _ _) (r .put-rule .kept .1 .1 .1 .1 .1 .0)
 
 same-length : tie.Need-same-length Inv-loop μ-loop
 same-length c = c .before .loop .inv .long

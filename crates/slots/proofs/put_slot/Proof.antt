@@ -1,8 +1,8 @@
 -- `slots::put_slot` meets its contract.
-use Rattle.slots.proofs.SpeltLaws.{slot-put}
-use lib.ListN.{length-set}
 use native.Mathlib.Omega.{arith}
 use borrow.Author.Needs.{needs}
+use lib.ListN.{length-set}
+use Rattle.slots.proofs.SpeltLaws.{slot-put}
 use Rattle.slots.proofs.put_slot.Statement.{statement}
 use Rattle.slots.proofs.put_slot.Tie as tie
 

@@ -1,11 +1,13 @@
 //! The seeded generator of sheets, damaged sheets, lent planes, split texts and drawings. Every case has its
-//! own random numbers, so that it does not change with the cases before it.
+//! own random numbers, so that it does not change with the cases before it. Some kinds are lists without seed.
 
 pub mod around;
 pub mod damage;
 pub mod draw;
 pub mod edges;
 pub mod grid;
+pub mod hand_drawings;
+pub mod hand_planes;
 pub mod planes;
 pub mod random;
 pub mod shape;
@@ -15,6 +17,7 @@ pub mod texts;
 
 use crate::lent::Lent;
 use crate::line::listed;
+use crate::packed::pack;
 use random::Random;
 
 /// What is generated.
@@ -29,6 +32,8 @@ pub enum Kind {
     LongSplits,
     Drawings,
     DamagedDrawings,
+    LentLines,
+    HandLines,
 }
 
 impl Kind {
@@ -44,6 +49,8 @@ impl Kind {
             "long-splits" => Some(Kind::LongSplits),
             "drawings" => Some(Kind::Drawings),
             "damaged-drawings" => Some(Kind::DamagedDrawings),
+            "lent-lines" => Some(Kind::LentLines),
+            "hand-lines" => Some(Kind::HandLines),
             _ => None,
         }
     }
@@ -71,12 +78,28 @@ pub fn generate(kind: Kind, seed: u64, case: u64) -> Vec<u8> {
         Kind::LongSplits => line("split", &splits::long(&mut random)),
         Kind::Drawings => line("drawing", &sheets::good(&mut random)),
         Kind::DamagedDrawings => line("drawing", &damage::damaged(&mut random)),
+        Kind::LentLines => lent_line(&planes::narrow(&mut random)),
+        Kind::HandLines => hand_line(case as usize),
     }
 }
 
 /// A lent plane, as `generate` makes it.
 pub fn lent_plane(seed: u64, case: u64) -> Lent {
     planes::plane(&mut Random::of(&[Kind::Planes.source() as u64, seed, case]))
+}
+
+/// A drawing or a plane made by hand, as a line; nothing behind the last of them.
+fn hand_line(case: usize) -> Vec<u8> {
+    let drawings = hand_drawings::drawings();
+    match drawings.get(case) {
+        Some(drawing) => line("drawing", drawing.as_bytes()),
+        None => hand_planes::planes().get(case - drawings.len()).map_or(vec![], lent_line),
+    }
+}
+
+/// A lent plane that fits, as a line.
+fn lent_line(lent: &Lent) -> Vec<u8> {
+    line("plane", &pack(lent).expect("numbers of at most 255"))
 }
 
 fn line(kind: &str, bytes: &[u8]) -> Vec<u8> {

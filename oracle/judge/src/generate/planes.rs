@@ -6,6 +6,7 @@ use super::shape::{FLAWS, Flaw, Shape};
 use super::texts;
 use crate::lent::Lent;
 use crate::limits::{PLANE_CELLS, PLANE_ROWS, REGIONS, TEXT_BYTES};
+use crate::packed::pack;
 
 const TEXTS: [&str; 28] = [
     "U",
@@ -318,11 +319,56 @@ fn at_limits(random: &mut Random) -> Lent {
     let cells = if cut == 1 { PLANE_CELLS + more } else { random.between(4, PLANE_CELLS) };
     let regions = if cut == 2 { REGIONS + more } else { random.between(PLANE_ROWS + 2, REGIONS) };
     let bytes = if cut == 3 { TEXT_BYTES + more } else { random.between(200, 3_000) };
-    large(random, rows, cells, regions, bytes)
+    let mut made = large(random, rows, cells, regions, bytes);
+    if random.chance(50) {
+        turn(&mut made);
+    }
+    lend_plainly(&made)
+}
+
+/// A lent plane that fits the bytes of a line.
+pub fn narrow(random: &mut Random) -> Lent {
+    if random.once_in(200) {
+        return narrow_at_limits(random);
+    }
+    loop {
+        let lent = plane(random);
+        if pack(&lent).is_some_and(|bytes| bytes.len() <= TEXT_BYTES) {
+            return lent;
+        }
+    }
+}
+
+/// A plane at a limit of rows, cells or regions or one over it, that fits the bytes of a line.
+fn narrow_at_limits(random: &mut Random) -> Lent {
+    let more = random.below(2);
+    let (rows, cells) = match random.below(4) {
+        0 => (PLANE_ROWS, PLANE_CELLS),
+        1 => (PLANE_ROWS + more, random.between(4, PLANE_CELLS)),
+        2 => (random.between(4, PLANE_ROWS), PLANE_CELLS + more),
+        _ => (random.between(4, 8), random.between(4, 8)),
+    };
+    let is_turned = random.chance(50);
+    let mut lent = narrow_of(random, rows, cells, is_turned);
+    if random.chance(25) {
+        lent.offsets.resize(REGIONS + more, 0);
+        lent.lengths.resize(REGIONS + more, 0);
+    }
+    lent
+}
+
+/// A row plane of a size, or that plane turned, whose numbers are all at most 255.
+pub fn narrow_of(random: &mut Random, rows: usize, cells: usize, is_turned: bool) -> Lent {
+    let (regions, bytes) = (random.between(rows + 2, 100), random.between(150, 255));
+    let mut made = large(random, rows, cells, regions, bytes);
+    if is_turned {
+        turn(&mut made);
+    }
+    lend_plainly(&made)
 }
 
 /// A row plane of a size. Its rule numbers are the first regions, its hit policy region 0.
-fn large(random: &mut Random, rows: usize, cells: usize, regions: usize, bytes: usize) -> Lent {
+fn large(random: &mut Random, rows: usize, cells: usize, regions: usize, bytes: usize) -> Made {
     let double = random.between(1, cells - 2);
     let mut made = Made { rows: vec![], texts: vec![] };
     for y in 0..rows {
@@ -341,10 +387,7 @@ fn large(random: &mut Random, rows: usize, cells: usize, regions: usize, bytes: 
     let used: usize = made.texts.iter().map(String::len).sum();
     made.texts.extend(shares(regions - rows, bytes.saturating_sub(used)));
     made.texts.truncate(regions);
-    if random.chance(50) {
-        turn(&mut made);
-    }
-    lend_plainly(&made)
+    made
 }
 
 /// Turns an even row plane to a column plane: its first row becomes its last.

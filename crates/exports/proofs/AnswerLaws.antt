@@ -1,30 +1,20 @@
--- The ways of reading a lent plane's sheet.
+-- What an answer tells of a lent plane's sheet.
 use mathlib.Core.Path.{_≡_, sym, ap, _∙_, subst}
-use mathlib.Core.List.{List, []}
+use mathlib.Core.List.{List}
 use Prim.Native.Nat.{ℕ}
-use lib.ListN.{length, getD}
-use Rattle.lists.specs.Answer.{ok, refused, _>>=_}
+use lib.ListN.{length}
+use Rattle.lists.specs.Answer.{refused}
 use Rattle.model.specs.Policies.{policyNumber, orientationNumber}
 use Rattle.model.specs.Refusals.{Reading}
 use Rattle.model.specs.declared.Refusal.{Refusal}
-use Rattle.cells.specs.Plane.{TextPlane, planeIn}
+use Rattle.cells.specs.Plane.{planeIn}
 use Rattle.cells.proofs.PlaneLaws.{length-plane}
-use Rattle.lent.specs.LentPlane.{LentPlane, lentOf}
-use Rattle.plane.specs.Sheet.{Sheet, statedSheet}
+use Rattle.plane.specs.Sheet.{Sheet}
 use Rattle.plane.specs.Stated.{statedIn}
 use Rattle.plane.specs.declared.Stated.{Stated}
 use Rattle.plane.specs.declared.StatedSheet.the-variants.{Upright}
-use Rattle.exports.specs.LentSheet.{lentSheet, answerOf, SheetIn}
+use Rattle.exports.specs.Answers.{answerOf, SheetIn}
 use Rattle.exports.specs.declared.LentAnswer.{LentAnswer}
-
-module _ (l : LentPlane) where
-  pub not-lent : (r : Refusal) → refused r ≡ lentOf l → refused r ≡ lentSheet l
-  unfolding lentSheet
-  not-lent r e = rw (← e)
-
-  pub lent-stated : (t : TextPlane) → ok t ≡ lentOf l → (m : Reading Sheet) → m ≡ statedSheet (λ k. getD (t .texts) k []) (t .plane) → m ≡ lentSheet l
-  unfolding lentSheet
-  lent-stated t e m q = rw (← e) q
 
 -- a refusal's numbers
 pub refused-told : (r : Refusal) (m : Reading Sheet) (x : LentAnswer) (d : List ℕ) → refused r ≡ m → x ≡ answerOf (refused r) → (x ≡ answerOf m) × SheetIn m d

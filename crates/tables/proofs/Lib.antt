@@ -1,0 +1,2 @@
+-- Laws of a table with its name.
+pub mod NameLaws

@@ -1,0 +1,2 @@
+-- Laws of the writing of slots.
+pub mod WritingLaws
