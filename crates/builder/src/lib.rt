@@ -1,0 +1,39 @@
+// The table of a lent plane: its numbers, and its texts as slots of a work slice.
+use lent::Loaded;
+use recognizer::Recognized;
+ghost use mathlib.Core.Path.{_≡_};
+ghost use Rattle.recognizer.specs.Told.{tableRead};
+ghost use Rattle.tables.specs.NamedTable.{namedTable, AnswerHeld};
+ghost use Rattle.builder.specs.LentPolicy.{lentPolicy, LentRoom};
+
+// The table of a lent plane.
+pub fn lent_table(
+    rows: &[u32],
+    kinds: &[u8],
+    regions: &[u32],
+    offsets: &[u32],
+    sizes: &[u32],
+    bytes: &[u8],
+    plane: &mut [u32],
+    spans: &mut [u32],
+    upright: &mut [u32],
+    slots: &mut [u32],
+) -> Recognized
+    requires { ⌜ LentRoom (now plane) (now spans) (now upright) (now slots) ⌝ }
+    ensures table { λ r. ⌜ namedTable r (now (bytes .entry)) (now (slots .exit)) ≡ tableRead (lentPolicy (record { rows = now (rows .entry); kinds = now (kinds .entry); regions = now (regions .entry); offsets = now (offsets .entry); sizes = now (sizes .entry); bytes = now (bytes .entry) })) ⌝ }
+    ensures held { λ r. ⌜ AnswerHeld r (now (bytes .entry)) (now (slots .exit)) ⌝ }
+{
+    match lent::load(rows, kinds, regions, offsets, sizes, bytes, plane, spans) {
+        Loaded::Rows(n) => tables::plane_table(
+            plane,
+            n,
+            bytes,
+            spans,
+            offsets.len(),
+            false,
+            upright,
+            slots,
+        ),
+        Loaded::NotLoaded(r) => Recognized::NotRecognized(r),
+    }
+}
