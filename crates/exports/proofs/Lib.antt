@@ -1,2 +1,3 @@
 -- Laws of what a lent plane states.
 pub mod AnswerLaws
+mod TableLaws

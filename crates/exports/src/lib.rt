@@ -2,11 +2,16 @@
 use model::Refusal;
 use plane::Stated;
 use plane::StatedSheet;
+use recognizer::Recognized;
+use recognizer::SlotTable;
 ghost use mathlib.Core.Path.{_≡_};
 ghost use Rattle.model.specs.Policies.{policyNumber, orientationNumber};
 ghost use Rattle.lists.specs.Answer.{refused};
 ghost use Rattle.plane.specs.LentSheet.{lentSheet, WorkRoom};
+ghost use Rattle.recognizer.specs.Told.{tableRead};
+ghost use Rattle.builder.specs.LentPolicy.{lentPolicy, LentRoom};
 ghost use Rattle.exports.specs.Answers.{answerOf, SheetIn};
+ghost use Rattle.exports.specs.TableAnswers.{tableAnswerOf, TextsIn};
 
 // A refusal's numbers; or n = 0, and a sheet's orientation, policy, rules and rows.
 #[repr(C)]
@@ -81,5 +86,95 @@ pub extern "C" fn fezandimo_upright(
     ) {
         StatedSheet::Upright(s) => sheet(s),
         StatedSheet::NotStated(r) => refusal(r),
+    }
+}
+
+// A refusal's numbers; or n = 0, and a table's numbers, its slots and the bytes of their texts.
+#[repr(C)]
+pub struct TableAnswer {
+    pub n: u64,
+    pub a: u64,
+    pub b: u64,
+    pub policy: u32,
+    pub orientation: u32,
+    pub inputs: usize,
+    pub outputs: usize,
+    pub annotations: usize,
+    pub rules: usize,
+    pub slots: usize,
+    pub bytes: usize,
+}
+
+fn no_table(r: Refusal) -> TableAnswer
+    ensures { λ x. ⌜ x ≡ tableAnswerOf (refused r) ⌝ }
+{
+    let x = model::refusal_numbers(r);
+    TableAnswer {
+        n: x.n,
+        a: x.a,
+        b: x.b,
+        policy: 0,
+        orientation: 0,
+        inputs: 0,
+        outputs: 0,
+        annotations: 0,
+        rules: 0,
+        slots: 0,
+        bytes: 0,
+    }
+}
+
+fn table(t: SlotTable) -> TableAnswer
+    ensures { λ x. ⌜ x ≡ record { n = 0; a = 0; b = 0; policy = policyNumber (t .policy); orientation = orientationNumber (t .orientation); inputs = t .inputs; outputs = t .outputs; annotations = t .annotations; rules = t .rules; slots = t .slots; bytes = t .bytes } ⌝ }
+{
+    let policy = t.policy;
+    let orientation = t.orientation;
+    TableAnswer {
+        n: 0,
+        a: 0,
+        b: 0,
+        policy: model::policy_number(policy),
+        orientation: model::orientation_number(orientation),
+        inputs: t.inputs,
+        outputs: t.outputs,
+        annotations: t.annotations,
+        rules: t.rules,
+        slots: t.slots,
+        bytes: t.bytes,
+    }
+}
+
+// The table of a lent plane; its texts go into the slots.
+#[no_mangle]
+pub extern "C" fn fezandimo_lent_slots(
+    rows: &[u32],
+    kinds: &[u8],
+    regions: &[u32],
+    offsets: &[u32],
+    sizes: &[u32],
+    bytes: &[u8],
+    plane: &mut [u32],
+    spans: &mut [u32],
+    upright: &mut [u32],
+    slots: &mut [u32],
+) -> TableAnswer
+    requires { ⌜ LentRoom (now plane) (now spans) (now upright) (now slots) ⌝ }
+    ensures answer { λ r. ⌜ r ≡ tableAnswerOf (tableRead (lentPolicy (record { rows = now (rows .entry); kinds = now (kinds .entry); regions = now (regions .entry); offsets = now (offsets .entry); sizes = now (sizes .entry); bytes = now (bytes .entry) }))) ⌝ }
+    ensures texts { λ _. ⌜ TextsIn (tableRead (lentPolicy (record { rows = now (rows .entry); kinds = now (kinds .entry); regions = now (regions .entry); offsets = now (offsets .entry); sizes = now (sizes .entry); bytes = now (bytes .entry) }))) (now (bytes .entry)) (now (slots .exit)) ⌝ }
+{
+    match builder::lent_table(
+        rows,
+        kinds,
+        regions,
+        offsets,
+        sizes,
+        bytes,
+        plane,
+        spans,
+        upright,
+        slots,
+    ) {
+        Recognized::Stands(t) => table(t),
+        Recognized::NotRecognized(r) => no_table(r),
     }
 }

@@ -2,6 +2,7 @@
 //! tests that the Rust does not know (numbers 1, 2, 7, 26 and 27) added in the order of document 01.
 
 pub mod canvas;
+pub mod clauses;
 pub mod count;
 pub mod drawing;
 pub mod generate;
@@ -16,4 +17,5 @@ pub mod rows;
 pub mod sheet;
 pub mod sizes;
 pub mod split;
+pub mod told;
 pub mod upright;

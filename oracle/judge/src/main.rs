@@ -5,14 +5,16 @@ use judge::lent::{Lent, judge_plane};
 use judge::limits::RECORD_BYTES;
 use judge::outcome::{Fault, Judged, run, silence_the_rust};
 use judge::sheet::{self, judge_sheet};
+use judge::told::plane_answer;
+use judge::upright::upright_of;
 use judge::{count, line};
 use recognizer::canvas::Canvas;
 use std::io::{self, BufWriter, Read, Write};
 use std::process::ExitCode;
 
 const USAGE: &str = "judge sheet|sheets|planes [--record-bytes N] < FILE
-judge layers|answers|stages|count < FILE
-judge generate --seed S --count N [--first K] [--kind sheets|damaged|planes|splits|short-splits|short-bytes|long-splits|drawings|damaged-drawings|lent-lines|hand-lines]";
+judge layers|answers|stages|causes|count < FILE
+judge generate --seed S --count N [--first K] [--kind sheets|damaged|planes|splits|short-splits|short-bytes|long-splits|drawings|damaged-drawings|lent-lines|hand-lines|clause-planes]";
 
 /// The options of all modes.
 struct Options {
@@ -84,6 +86,16 @@ fn planes(out: &mut impl Write, options: &Options) -> Judged<()> {
     Ok(())
 }
 
+/// What is counted of each plane, a line.
+fn causes(out: &mut impl Write) -> Judged<()> {
+    for line in input_lines()? {
+        let lent = Lent::parse(&line)?;
+        let answer = plane_answer(&lent, &upright_of(&lent))?;
+        write(out, format!("{}\n", answer.name()).as_bytes())?;
+    }
+    Ok(())
+}
+
 fn answers(out: &mut impl Write) -> Judged<()> {
     for line in input_lines()? {
         line::answer(out, &line)?;
@@ -113,6 +125,7 @@ fn answer() -> Judged<()> {
         "layers" => layers()?,
         "planes" => planes(&mut out, &options)?,
         "answers" => answers(&mut out)?,
+        "causes" => causes(&mut out)?,
         "stages" => stages(&mut out)?,
         "count" => write(&mut out, count::count(&input()?).as_bytes())?,
         "generate" => {

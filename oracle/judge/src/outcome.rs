@@ -4,6 +4,7 @@ use crate::record;
 use std::cell::Cell;
 use std::fmt;
 use std::panic::{AssertUnwindSafe, catch_unwind};
+use std::sync::Once;
 
 thread_local! {
     /// The Rust is being run: its panics are answers.
@@ -79,12 +80,15 @@ pub fn run<T>(piece: impl FnOnce() -> T) -> Result<T, Outcome> {
 
 /// Keeps the panics of the Rust from printing, and no others.
 pub fn silence_the_rust() {
-    let print = std::panic::take_hook();
-    std::panic::set_hook(Box::new(move |info| {
-        if !RUNNING.get() {
-            print(info);
-        }
-    }));
+    static SILENCED: Once = Once::new();
+    SILENCED.call_once(|| {
+        let print = std::panic::take_hook();
+        std::panic::set_hook(Box::new(move |info| {
+            if !RUNNING.get() {
+                print(info);
+            }
+        }));
+    });
 }
 
 /// The judge and the Rust differ, or an input is not in its format. Ends the run.

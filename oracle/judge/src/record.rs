@@ -89,10 +89,48 @@ pub fn encode(table: &DecisionTable) -> Vec<u8> {
     bytes
 }
 
+/// A table as its record has it.
+#[derive(Debug, Default, Clone, PartialEq, Eq)]
+pub struct Table {
+    pub policy: usize,
+    pub orientation: usize,
+    pub inputs: usize,
+    pub outputs: usize,
+    pub annotations: usize,
+    pub rules: usize,
+    /// The texts of the slots.
+    pub texts: Vec<Option<String>>,
+}
+
+impl Table {
+    /// The table of a record.
+    pub fn of_record(record: &[u8]) -> Self {
+        let text = |(offset, length)| {
+            String::from_utf8(record[offset..offset + length].to_vec()).expect("a text of the Rust")
+        };
+        let [policy, orientation, inputs, outputs, annotations, rules] =
+            [1, 2, 3, 4, 5, 6].map(|index| word(record, index));
+        let texts = (0..word(record, 8)).map(|slot| place(record, slot).map(text)).collect();
+        Self { policy, orientation, inputs, outputs, annotations, rules, texts }
+    }
+
+    /// The bytes of all texts together.
+    pub fn bytes(&self) -> usize {
+        self.texts.iter().flatten().map(String::len).sum()
+    }
+}
+
 /// The word at an index of a record.
 fn word(record: &[u8], index: usize) -> usize {
     let bytes = record[4 * index..4 * index + 4].try_into().expect("four bytes");
     u32::from_le_bytes(bytes) as usize
+}
+
+/// The offset and the length of a slot that is not absent.
+fn place(record: &[u8], slot: usize) -> Option<(usize, usize)> {
+    let first = word(record, 7) / 4 + 2 * slot;
+    let offset = word(record, first);
+    (offset != 0).then(|| (offset, word(record, first + 1)))
 }
 
 /// The lines that document 01's program prints for a record.
@@ -101,16 +139,13 @@ pub fn print(record: &[u8]) -> Vec<u8> {
     for (index, name) in NAMES.iter().enumerate() {
         writeln!(out, "{name} {}", word(record, index)).expect("a vector takes all");
     }
-    let first_slot = word(record, 7) / 4;
     for slot in 0..word(record, 8) {
-        let offset = word(record, first_slot + 2 * slot);
-        let length = word(record, first_slot + 2 * slot + 1);
-        if offset == 0 {
-            writeln!(out, "slot {slot} absent").expect("a vector takes all");
-        } else {
+        if let Some((offset, length)) = place(record, slot) {
             write!(out, "slot {slot} {offset} {length} ").expect("a vector takes all");
             out.extend_from_slice(&record[offset..offset + length]);
             out.push(b'\n');
+        } else {
+            writeln!(out, "slot {slot} absent").expect("a vector takes all");
         }
     }
     out

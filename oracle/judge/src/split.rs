@@ -16,3 +16,8 @@ pub fn judge_split(text: &[u8]) -> String {
         _ => "own".to_string(),
     }
 }
+
+/// The allowed values that the split gives of a text.
+pub fn allowed_values(text: &str) -> Option<String> {
+    get_allowed_and_default_output_values(&Some(text.to_string())).0
+}

@@ -2,6 +2,7 @@
 //! own random numbers, so that it does not change with the cases before it. Some kinds are lists without seed.
 
 pub mod around;
+pub mod clause_planes;
 pub mod damage;
 pub mod draw;
 pub mod edges;
@@ -34,6 +35,7 @@ pub enum Kind {
     DamagedDrawings,
     LentLines,
     HandLines,
+    ClausePlanes,
 }
 
 impl Kind {
@@ -51,6 +53,7 @@ impl Kind {
             "damaged-drawings" => Some(Kind::DamagedDrawings),
             "lent-lines" => Some(Kind::LentLines),
             "hand-lines" => Some(Kind::HandLines),
+            "clause-planes" => Some(Kind::ClausePlanes),
             _ => None,
         }
     }
@@ -80,12 +83,25 @@ pub fn generate(kind: Kind, seed: u64, case: u64) -> Vec<u8> {
         Kind::DamagedDrawings => line("drawing", &damage::damaged(&mut random)),
         Kind::LentLines => lent_line(&planes::narrow(&mut random)),
         Kind::HandLines => hand_line(case as usize),
+        Kind::ClausePlanes => (clause_planes::plane(&mut random).line() + "\n").into_bytes(),
     }
 }
 
 /// A lent plane, as `generate` makes it.
 pub fn lent_plane(seed: u64, case: u64) -> Lent {
     planes::plane(&mut Random::of(&[Kind::Planes.source() as u64, seed, case]))
+}
+
+/// A lent plane that aims at the clause rules, as `generate` makes it.
+pub fn clause_plane(seed: u64, case: u64) -> Lent {
+    clause_planes::plane(&mut Random::of(&[Kind::ClausePlanes.source() as u64, seed, case]))
+}
+
+/// The bytes of a good or a damaged sheet, as `generate` makes it.
+pub fn sheet_bytes(is_damaged: bool, seed: u64, case: u64) -> Vec<u8> {
+    let kind = if is_damaged { Kind::Damaged } else { Kind::Sheets };
+    let mut random = Random::of(&[kind.source() as u64, seed, case]);
+    if is_damaged { damage::damaged(&mut random) } else { sheets::good(&mut random) }
 }
 
 /// A drawing or a plane made by hand, as a line; nothing behind the last of them.
@@ -102,7 +118,8 @@ fn lent_line(lent: &Lent) -> Vec<u8> {
     line("plane", &pack(lent).expect("numbers of at most 255"))
 }
 
-fn line(kind: &str, bytes: &[u8]) -> Vec<u8> {
+/// A line `KIND N b0 .. b(N-1)`.
+pub fn line(kind: &str, bytes: &[u8]) -> Vec<u8> {
     format!("{kind} {}\n", listed(bytes)).into_bytes()
 }
 

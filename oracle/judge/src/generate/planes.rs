@@ -40,12 +40,12 @@ const TEXTS: [&str; 28] = [
 ];
 
 /// A cell: its kind and its region.
-type Cell = (u64, u64);
+pub type Cell = (u64, u64);
 
 /// A plane before it is lent.
-struct Made {
-    rows: Vec<Vec<Cell>>,
-    texts: Vec<String>,
+pub struct Made {
+    pub rows: Vec<Vec<Cell>>,
+    pub texts: Vec<String>,
 }
 
 /// A lent plane.
@@ -82,6 +82,11 @@ fn shape(random: &mut Random) -> Shape {
 fn near(random: &mut Random) -> Made {
     let shape = shape(random);
     let flaw = if random.chance(80) { Flaw::None } else { random.pick(&FLAWS) };
+    made(random, shape, flaw)
+}
+
+/// The plane of a table of a shape, with a flaw or none.
+pub fn made(random: &mut Random, shape: Shape, flaw: Flaw) -> Made {
     let upright = shape.upright(random, flaw);
     let grid = shape.whole(random, flaw, upright);
     let (double_rows, double_columns) = shape.double_lines(flaw);
@@ -164,7 +169,7 @@ fn place(random: &mut Random, made: &Made) -> Option<(usize, usize)> {
 }
 
 /// One change of a plane.
-fn change(random: &mut Random, made: &mut Made) {
+pub fn change(random: &mut Random, made: &mut Made) {
     let Some((x, y)) = place(random, made) else {
         made.rows.push(vec![]);
         return;
@@ -231,7 +236,7 @@ fn change_row_zero(random: &mut Random, made: &mut Made) {
 }
 
 /// Lends a plane: the texts one after another, equal ones now and then in one part.
-fn lend(random: &mut Random, made: &Made) -> Lent {
+pub fn lend(random: &mut Random, made: &Made) -> Lent {
     let mut lent = Lent {
         row_lengths: made.rows.iter().map(|row| row.len() as u64).collect(),
         kinds: made.rows.iter().flatten().map(|cell| cell.0).collect(),
