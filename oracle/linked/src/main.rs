@@ -1,6 +1,9 @@
 //! Compares the port's static library with the Rust: what lent planes state before the clause rules, and the tables of lent
 //! planes and of sheets.
 
+// What only the tables of drawings use is there without them.
+#![cfg_attr(not(any(test, feature = "drawings")), allow(dead_code, unused_imports))]
+
 mod compare;
 #[cfg(test)]
 mod mock;
