@@ -25,19 +25,19 @@ use Rattle.scan.proofs.Answers.{scanned-size, fits-size}
 use Rattle.scan.proofs.TextLayer.{text-canvas, blanks-canvas}
 use Rattle.unicode.specs.Utf8.{checked}
 use Rattle.unicode.specs.declared.Checked.the-variants.{Valid, Invalid}
-use Rattle.canvas.specs.Layers.{textLayer, drawingOf, sheetOf}
+use Rattle.canvas.specs.Layers.{textLayer, drawingBy, drawingOf, sheetBy, sheetOf}
 use Rattle.canvas.specs.Drawn.{Shown}
 
 pub ill-formed : (s : List ℕ) (at : ℕ) → checked s ≡ Invalid at → refused (InvalidUtf8 at) ≡ sheetOf s
-unfolding sheetOf
+unfolding sheetBy
 ill-formed s at e = rw e
 
 pub well-formed : (s : List ℕ) (d : Reading Outline) → checked s ≡ Valid → d ≡ drawingOf (rowsAt s 0) → d ≡ sheetOf s
-unfolding sheetOf
+unfolding sheetBy
 well-formed s d e f = f ∙ rw e
 
 pub scan-refused : (rs : List (List ℕ)) (r : Refusal) → scannedIn (NotScanned r) ≡ sizeOf rs → refused r ≡ drawingOf rs
-unfolding drawingOf
+unfolding drawingBy
 scan-refused rs r e = rw (← e)
 
 module _ (rs : List (List ℕ)) (h w end : ℕ) (e : scannedIn (Canvas h w end) ≡ sizeOf rs) where
@@ -55,7 +55,7 @@ module _ (rs : List (List ℕ)) (h w end : ℕ) (e : scannedIn (Canvas h w end) 
     text-shown = let q = scanned-size rs h w end e in rw (q .1, q .2, f) (text-canvas rs d (q .0))
 
     outline-is : outlineOf (canvas w h t) w h ≡ drawingOf rs
-    unfolding drawingOf
+    unfolding drawingBy
     outline-is = rw (← e, text-shown)
 
     pub outline-refused : (r : Refusal) → refused r ≡ outlineOf (canvas w h t) w h → refused r ≡ drawingOf rs

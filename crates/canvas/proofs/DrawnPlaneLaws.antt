@@ -20,22 +20,22 @@ use Rattle.step.specs.PlaneStep.{planeOf}
 use Rattle.step.proofs.RegionsAmong.{plane-among}
 use Rattle.walks.specs.Frame.{frameOf}
 use Rattle.walks.specs.Kinds as kind
-use Rattle.canvas.specs.DrawnPlane.{textPlaneOf}
+use Rattle.canvas.specs.DrawnPlane.{textPlaneBy, textPlaneOf}
 use Rattle.canvas.specs.RegionTexts.{Regions, regionTextsOf, UsedIn}
 use Rattle.canvas.specs.declared.RegionsRead.the-variants.{Read}
 
 module _ (o : Outline) (text thin grid : Picture) (w h : ℕ) where
   pub no-regions : (r : Refusal) → refused r ≡ regionTextsOf text thin w h → refused r ≡ textPlaneOf o text thin grid w h
-  unfolding textPlaneOf
+  unfolding textPlaneBy
   no-regions r e = rw (← e)
 
   module _ (g : Regions) (e : ok g ≡ regionTextsOf text thin w h) where
     pub no-plane : (r : Refusal) → refused r ≡ planeOf o (g .rects) grid w h → refused r ≡ textPlaneOf o text thin grid w h
-    unfolding textPlaneOf
+    unfolding textPlaneBy
     no-plane r p = rw (← e, ← p)
 
     pub with-plane : (P : Plane) → ok P ≡ planeOf o (g .rects) grid w h → ok (record { plane = P; texts = g .texts }) ≡ textPlaneOf o text thin grid w h
-    unfolding textPlaneOf
+    unfolding textPlaneBy
     with-plane P p = rw (← e, ← p)
 
 -- a plane of `count` regions

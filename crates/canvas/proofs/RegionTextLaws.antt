@@ -8,18 +8,18 @@ use Rattle.model.specs.declared.Rect.{Rect}
 use Rattle.model.specs.declared.Refusal.{Refusal}
 use Rattle.regions.specs.Regions.{regionsOf}
 use Rattle.texts.specs.RegionText.{textsOf}
-use Rattle.canvas.specs.RegionTexts.{regionTextsOf}
+use Rattle.canvas.specs.RegionTexts.{regionTextsBy, regionTextsOf}
 
 module _ (p q : Picture) (w h : ℕ) where
   pub not-counted : (r : Refusal) → refused r ≡ regionsOf q w h → refused r ≡ regionTextsOf p q w h
-  unfolding regionTextsOf
+  unfolding regionTextsBy
   not-counted r e = rw (← e)
 
   module _ (rs : List Rect) (e : ok rs ≡ regionsOf q w h) where
     pub not-gathered : (r : Refusal) → refused r ≡ textsOf p rs → refused r ≡ regionTextsOf p q w h
-    unfolding regionTextsOf
+    unfolding regionTextsBy
     not-gathered r f = rw (← e, ← f)
 
     pub gathered : (ts : List (List ℕ)) → ok ts ≡ textsOf p rs → ok (record { rects = rs; texts = ts }) ≡ regionTextsOf p q w h
-    unfolding regionTextsOf
+    unfolding regionTextsBy
     gathered ts f = rw (← e, ← f)

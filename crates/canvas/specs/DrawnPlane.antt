@@ -11,17 +11,23 @@ use Rattle.cells.specs.Plane.{TextPlane, planeIn}
 use Rattle.cells.specs.Spans.{textsIn}
 use Rattle.outline.specs.declared.Outline.{Outline}
 use Rattle.regions.specs.Rects.{Layer}
-use Rattle.step.specs.PlaneStep.{planeOf}
-use Rattle.canvas.specs.RegionTexts.{regionTextsOf, RegionRoom}
+use Rattle.step.specs.PlaneStep.{planeBy}
+use Rattle.walks.specs.Frame.{FrameFinder, frameOf}
+use Rattle.walks.specs.Kinds as kind
+use Rattle.canvas.specs.RegionTexts.{regionTextsBy, RegionRoom}
 use Rattle.canvas.specs.declared.PlaneRead.{PlaneRead}
 use Rattle.canvas.specs.declared.PlaneRead.the-variants.{Rows, NoPlane}
 
 -- the regions of THIN and their texts on TEXT, then the plane of GRID: the texts are counted (7) before the plane is made
-unfoldable pub textPlaneOf : Outline → Picture → Picture → Picture → ℕ → ℕ → Reading TextPlane
-textPlaneOf o text thin grid w h = do
-  g ← regionTextsOf text thin w h
-  P ← planeOf o (g .rects) grid w h
+unfoldable pub textPlaneBy : FrameFinder → Outline → Picture → Picture → Picture → ℕ → ℕ → Reading TextPlane
+textPlaneBy find o text thin grid w h = do
+  g ← regionTextsBy find text thin w h
+  P ← planeBy (find kind.grid grid w h) o (g .rects) grid w h
   ok (record { plane = P; texts = g .texts })
+
+-- the same by walks
+abbrev pub textPlaneOf : Outline → Picture → Picture → Picture → ℕ → ℕ → Reading TextPlane
+textPlaneOf = textPlaneBy frameOf
 
 -- an answer's plane and texts, with the slices that hold them
 abbrev pub planeRead : PlaneRead → List ℕ → List ℕ → List ℕ → Reading TextPlane

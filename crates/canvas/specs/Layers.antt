@@ -10,11 +10,12 @@ use Rattle.model.specs.declared.Refusal.the-variants.{InvalidUtf8}
 use Rattle.layers.specs.Body.{bodyPicture}
 use Rattle.layers.specs.Grid.{gridPicture}
 use Rattle.layers.specs.Thin.{thinPicture}
-use Rattle.outline.specs.Outline.{outlineOf}
+use Rattle.outline.specs.Outline.{outlineBy}
 use Rattle.outline.specs.declared.Outline.{Outline}
 use Rattle.scan.specs.Canvas.{rowsAt, sizeOf}
 use Rattle.scan.specs.Rows.{widest, blank, flat}
 use Rattle.unicode.specs.Utf8.{checked, onText}
+use Rattle.walks.specs.Frame.{FrameFinder, frameOf}
 
 -- TEXT: the rows, each filled to the longest
 abbrev pub textLayer : List (List ℕ) → Picture
@@ -33,11 +34,18 @@ abbrev pub gridLayer : List (List ℕ) → Rect → Picture
 gridLayer rs r = gridPicture r (bodyLayer rs r)
 
 -- the outline of the table that some rows draw
-unfoldable pub drawingOf : List (List ℕ) → Reading Outline
-drawingOf rs = do
+unfoldable pub drawingBy : FrameFinder → List (List ℕ) → Reading Outline
+drawingBy find rs = do
   size ← sizeOf rs
-  outlineOf (textLayer rs) (size .width) (size .height)
+  outlineBy find (textLayer rs) (size .width) (size .height)
 
 -- the outline of the first sheet in some bytes: number 1 comes first, wherever the ill-formed bytes stand
-unfoldable pub sheetOf : List ℕ → Reading Outline
-sheetOf s = onText (checked s) (λ at. refused (InvalidUtf8 at)) (drawingOf (rowsAt s 0))
+unfoldable pub sheetBy : FrameFinder → List ℕ → Reading Outline
+sheetBy find s = onText (checked s) (λ at. refused (InvalidUtf8 at)) (drawingBy find (rowsAt s 0))
+
+-- the same by walks
+abbrev pub drawingOf : List (List ℕ) → Reading Outline
+drawingOf = drawingBy frameOf
+
+abbrev pub sheetOf : List ℕ → Reading Outline
+sheetOf = sheetBy frameOf

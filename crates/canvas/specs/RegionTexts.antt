@@ -8,8 +8,10 @@ use Rattle.model.specs.Limits.{regionCount, textBytes}
 use Rattle.model.specs.Refusals.{Reading}
 use Rattle.model.specs.declared.Rect.{Rect}
 use Rattle.regions.specs.Rects.{rectsOf, Layer}
-use Rattle.regions.specs.Regions.{regionsOf}
+use Rattle.regions.specs.Regions.{regionsBy}
 use Rattle.texts.specs.RegionText.{textsOf}
+use Rattle.walks.specs.Frame.{FrameFinder, frameOf}
+use Rattle.walks.specs.Kinds.{thin}
 use Rattle.cells.specs.Spans.{textsIn}
 use Rattle.texts.specs.Spans.{SpansIn}
 use Rattle.texts.specs.declared.Gathered.the-variants.{Texts}
@@ -20,12 +22,16 @@ pub record Regions : Type 0 where
   pub rects : List Rect
   pub texts : List (List ℕ)
 
--- the regions of THIN, and their texts on TEXT: all regions are walked before any text is gathered
-unfoldable pub regionTextsOf : Picture → Picture → ℕ → ℕ → Reading Regions
-regionTextsOf text thin w h = do
-  rs ← regionsOf thin w h
+-- the regions of THIN, and their texts on TEXT: all regions are found before any text is gathered
+unfoldable pub regionTextsBy : FrameFinder → Picture → Picture → ℕ → ℕ → Reading Regions
+regionTextsBy find text lines w h = do
+  rs ← regionsBy (find thin lines w h) lines w h
   ts ← textsOf text rs
   ok (record { rects = rs; texts = ts })
+
+-- the same by walks
+abbrev pub regionTextsOf : Picture → Picture → ℕ → ℕ → Reading Regions
+regionTextsOf = regionTextsBy frameOf
 
 -- an answer's regions, with the slices that hold them
 abbrev pub regionsIn : RegionsRead → List ℕ → List ℕ → List ℕ → Reading Regions

@@ -9,7 +9,8 @@ ghost use Rattle.model.specs.Policies.{policyNumber, orientationNumber};
 ghost use Rattle.lists.specs.Answer.{refused};
 ghost use Rattle.plane.specs.LentSheet.{lentSheet, WorkRoom};
 ghost use Rattle.recognizer.specs.Told.{tableRead};
-ghost use Rattle.builder.specs.LentPolicy.{lentPolicy, LentRoom};
+ghost use Rattle.policies.specs.LentPolicy.{lentPolicy};
+ghost use Rattle.sources.specs.LentTable.{LentRoom};
 ghost use Rattle.exports.specs.Answers.{answerOf, SheetIn};
 ghost use Rattle.exports.specs.TableAnswers.{tableAnswerOf, TextsIn};
 
@@ -162,7 +163,7 @@ pub extern "C" fn fezandimo_lent_slots(
     ensures answer { λ r. ⌜ r ≡ tableAnswerOf (tableRead (lentPolicy (record { rows = now (rows .entry); kinds = now (kinds .entry); regions = now (regions .entry); offsets = now (offsets .entry); sizes = now (sizes .entry); bytes = now (bytes .entry) }))) ⌝ }
     ensures texts { λ _. ⌜ TextsIn (tableRead (lentPolicy (record { rows = now (rows .entry); kinds = now (kinds .entry); regions = now (regions .entry); offsets = now (offsets .entry); sizes = now (sizes .entry); bytes = now (bytes .entry) }))) (now (bytes .entry)) (now (slots .exit)) ⌝ }
 {
-    match builder::lent_table(
+    match sources::lent_table(
         rows,
         kinds,
         regions,

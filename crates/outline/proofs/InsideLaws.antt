@@ -11,7 +11,7 @@ use Rattle.model.specs.Box.{┌, ╥, ╬}
 use Rattle.model.specs.Refusals.{Reading}
 use Rattle.model.specs.declared.Rect.{Rect}
 use Rattle.walks.proofs.WalkLaws.{found-bound}
-use Rattle.outline.specs.Outline.{searchOf, namedOf, bodyOf, tableOf, outlineOf}
+use Rattle.outline.specs.Outline.{searchOf, namedOf, bodyOf, tableOf, outlineBy, outlineOf}
 use Rattle.outline.specs.declared.Outline.{Outline}
 use Rattle.outline.proofs.OutlineLaws.{search-in, upOf, downOf, leftOf, rightwardsOf}
 
@@ -62,7 +62,7 @@ table-inside p w h n k o l e =
     subst (InsideAnswer w h) s (record { column = x; row = y; body = a })
 
 pub outline-inside : (p : Picture) (w h : ℕ) (o : Outline) → outlineOf p w h ≡ ok o → Inside w h o
-unfolding outlineOf
+unfolding outlineBy
 outline-inside p w h o e =
     let c = then-ok (searchOf ┌ p w h) _ o e in
     let i = then-ok (searchOf ╥ p w h) _ o (c .2) in

@@ -24,7 +24,7 @@ use Rattle.walks.specs.declared.Direction.the-variants.{Right, Down, Left, Up}
 use Rattle.walks.specs.declared.Walked.{Walked}
 use Rattle.walks.specs.declared.Walked.the-variants.{Steps, Stopped}
 use Rattle.walks.proofs.WalkLaws.{found-bound}
-use Rattle.outline.specs.Outline.{searchFrom, searchOf, namedOf, crossingBy, bodyOf, tableOf, outlineOf}
+use Rattle.outline.specs.Outline.{searchFrom, searchOf, namedBy, namedOf, crossingBy, bodyOf, tableOf, outlineBy, outlineOf}
 use Rattle.outline.specs.Answers.{WalkFits}
 use Rattle.outline.specs.declared.Crossing.{Crossing}
 
@@ -72,16 +72,16 @@ search-in c p w h j e = let b = found-in (at p w) c 0 (h * w) j e in omega arith
 -- a name above the table, or none
 module _ (p : Picture) (w h : ℕ) where
   pub none-above : ok false ≡ namedOf p w h 0
-  unfolding namedOf
+  unfolding namedBy
   none-above = refl
 
   module _ (row : ℕ) (b : 0 < row) where
     pub name-above : (r : Rect) → frameOf name p w h 0 0 ≡ ok r → ok true ≡ namedOf p w h row
-    unfolding namedOf
+    unfolding namedBy
     name-above r e = rw (lt-ltb 0 row b, e)
 
     pub name-refused : (r : Refusal) → frameOf name p w h 0 0 ≡ refused r → refused r ≡ namedOf p w h row
-    unfolding namedOf
+    unfolding namedBy
     name-refused r e = rw (lt-ltb 0 row b, e)
 
 -- the walks to the sides of the body
@@ -141,24 +141,24 @@ module _ (p : Picture) (w h : ℕ) (n : Bool) (k : ℕ) where
 -- the steps of the outline
 module _ (p : Picture) (w h : ℕ) where
   pub no-corner : (r : Refusal) → searchOf ┌ p w h ≡ refused r → refused r ≡ outlineOf p w h
-  unfolding outlineOf
+  unfolding outlineBy
   no-corner r e = rw e
 
   module _ (c : ℕ) (ec : searchOf ┌ p w h ≡ ok c) where
     pub no-edge : (r : Refusal) → searchOf ╥ p w h ≡ refused r → refused r ≡ outlineOf p w h
-    unfolding outlineOf
+    unfolding outlineBy
     no-edge r e = rw (ec, e)
 
     module _ (i : ℕ) (ei : searchOf ╥ p w h ≡ ok i) where
       pub no-name : (r : Refusal) → namedOf p w h (i / w) ≡ refused r → refused r ≡ outlineOf p w h
-      unfolding outlineOf
+      unfolding outlineBy
       no-name r e = rw (ec, ei, e)
 
       module _ (n : Bool) (en : namedOf p w h (i / w) ≡ ok n) where
         pub no-crossing : (r : Refusal) → searchOf ╬ p w h ≡ refused r → refused r ≡ outlineOf p w h
-        unfolding outlineOf
+        unfolding outlineBy
         no-crossing r e = rw (ec, ei, en, e)
 
         pub table-is : (k : ℕ) → searchOf ╬ p w h ≡ ok k → tableOf p w h n k ≡ outlineOf p w h
-        unfolding outlineOf
+        unfolding outlineBy
         table-is k e = rw (ec, ei, en, e)

@@ -11,7 +11,7 @@ use Rattle.model.specs.Box.{┌, ═, ║, ╞, ╟, ╡, ╢, ╤, ╥, ╧, �
 use Rattle.model.specs.Refusals.{Reading}
 use Rattle.model.specs.declared.Rect.{Rect}
 use Rattle.model.specs.declared.Refusal.the-variants.{CharactersNotFound}
-use Rattle.walks.specs.Frame.{frameOf}
+use Rattle.walks.specs.Frame.{FrameFinder, frameOf}
 use Rattle.walks.specs.Kinds.{name}
 use Rattle.walks.specs.Walk.{goOf}
 use Rattle.walks.specs.declared.Direction.the-variants.{Right, Down, Left, Up}
@@ -29,8 +29,11 @@ abbrev pub searchOf : ℕ → Picture → ℕ → ℕ → Reading ℕ
 searchOf c p w h = searchFrom (at p w) c 0 (h * w)
 
 -- a name stands above the table where the first ╥ lies below row 0: its box starts in the top left corner
-unfoldable pub namedOf : Picture → ℕ → ℕ → ℕ → Reading Bool
-namedOf p w h row = choose (ltb 0 row) (_>>_ (frameOf name p w h 0 0) (ok true)) (ok false)
+unfoldable pub namedBy : FrameFinder → Picture → ℕ → ℕ → ℕ → Reading Bool
+namedBy find p w h row = choose (ltb 0 row) (_>>_ (find name p w h 0 0) (ok true)) (ok false)
+
+abbrev pub namedOf : Picture → ℕ → ℕ → ℕ → Reading Bool
+namedOf = namedBy frameOf
 
 -- the crossing that a walk finds, `from` being where it began
 abbrev pub crossingBy : ℕ → Reading ℕ → Crossing
@@ -67,10 +70,14 @@ tableOf p w h named cross = do
   })
 
 -- the outline; rows begin with ┌ in row 0, so ┌ is missing where there are none
-unfoldable pub outlineOf : Picture → ℕ → ℕ → Reading Outline
-outlineOf p w h = do
+unfoldable pub outlineBy : FrameFinder → Picture → ℕ → ℕ → Reading Outline
+outlineBy find p w h = do
   corner ← searchOf ┌ p w h
   edge ← searchOf ╥ p w h
-  named ← namedOf p w h (edge / w)
+  named ← namedBy find p w h (edge / w)
   cross ← searchOf ╬ p w h
   tableOf p w h named cross
+
+-- the outline by walks
+abbrev pub outlineOf : Picture → ℕ → ℕ → Reading Outline
+outlineOf = outlineBy frameOf

@@ -19,7 +19,7 @@ use Rattle.scan.proofs.Answers.{fits-size}
 use Rattle.unicode.specs.Utf8.{checked}
 use Rattle.unicode.specs.declared.Checked.{Checked}
 use Rattle.unicode.specs.declared.Checked.the-variants.{Valid, Invalid}
-use Rattle.canvas.specs.Layers.{drawingOf, sheetOf}
+use Rattle.canvas.specs.Layers.{drawingBy, drawingOf, sheetBy, sheetOf}
 use Rattle.canvas.specs.Drawn.{outlineIn, LayersIn, Shown}
 use Rattle.canvas.specs.RegionTexts.{Regions as Shape, regionTextsOf, regionsIn, UsedIn}
 use Rattle.canvas.specs.declared.Drawing.{Drawing}
@@ -39,11 +39,11 @@ use Rattle.print.specs.Drawings.{layersLines, countedLines, nameLine, Layer, Te
 use Rattle.replay.specs.DrawingLines.{planePrinted, regionsLines, drawingLines}
 
 drawn-fits : (rs : List (List ℕ)) (o : Outline) → drawingOf rs ≡ ok o → fits rs ≡ true
-unfolding drawingOf sizeOf
+unfolding drawingBy sizeOf
 drawn-fits rs o e = by-flag (fits rs) (λ t. t) (λ t. refused-ok (rw t at e))
 
 sheet-fits : (s : List ℕ) (o : Outline) → sheetOf s ≡ ok o → fits (rowsAt s 0) ≡ true
-unfolding sheetOf
+unfolding sheetBy
 sheet-fits s o e = go (checked s) refl
   where
     go : (k : Checked) → checked s ≡ k → fits (rowsAt s 0) ≡ true

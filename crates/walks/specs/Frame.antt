@@ -35,7 +35,11 @@ rectOf x y bx by = record { left = x; top = y; right = bx + 1; bottom = by + 1 }
 abbrev pub closeOf : ℕ → ℕ → ℕ → ℕ → ℕ → ℕ → Reading Rect
 closeOf x y cx cy bx by = choose (eqb cx x && eqb cy y) (ok (rectOf x y bx by)) (refused (RectangleNotClosed cx cy))
 
--- right, down, left and up from column x of row y, in a picture of w columns and h rows
+-- a way to find the frame of a kind that starts in column x of row y, in a picture of w columns and h rows
+abbrev pub FrameFinder : Type 0
+FrameFinder = Kind → Picture → ℕ → ℕ → ℕ → ℕ → Reading Rect
+
+-- by walks: right, down, left and up from column x of row y, in a picture of w columns and h rows
 unfoldable pub frameOf : Kind → Picture → ℕ → ℕ → ℕ → ℕ → Reading Rect
 frameOf K p w h x y = do
   a ← goOf Right p w h x y (K .topRight) (K .top)

@@ -10,7 +10,7 @@ use Rattle.lists.specs.Picture.{Picture}
 use Rattle.model.specs.Refusals.{Reading}
 use Rattle.model.specs.declared.Rect.{Rect}
 use Rattle.model.specs.declared.Refusal.the-variants.{RectangleNotClosed}
-use Rattle.walks.specs.Frame.{Kind, rectOf}
+use Rattle.walks.specs.Frame.{FrameFinder, Kind, rectOf}
 
 -- f holds at the n numbers from k on
 unfoldable pub allFrom : (ℕ → Bool) → ℕ → ℕ → Bool
@@ -52,5 +52,5 @@ given x y (some r) = ok r
 given x y none = refused (RectangleNotClosed x y)
 
 -- the finder; where no frame starts, what is drawn is not closed
-abbrev pub bySides : Kind → Picture → ℕ → ℕ → ℕ → ℕ → Reading Rect
+abbrev pub bySides : FrameFinder
 bySides K p w h x y = given x y (frameAt K p w h x y)

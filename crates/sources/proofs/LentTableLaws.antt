@@ -17,7 +17,7 @@ use Rattle.lent.proofs.FormLaws.{parts-good}
 use Rattle.recognizer.specs.StatedPolicy.{statedPolicy}
 use Rattle.recognizer.specs.Told.{tableRead}
 use Rattle.tables.specs.NamedTable.{NameIn}
-use Rattle.builder.specs.LentPolicy.{textOf, lentPolicy}
+use Rattle.policies.specs.LentPolicy.{textIn, lentPolicy}
 
 module _ (l : LentPlane) where
   pub not-lent : (r : Refusal) → refused r ≡ lentOf l → refused r ≡ tableRead (lentPolicy l)
@@ -25,7 +25,7 @@ module _ (l : LentPlane) where
   not-lent r e = rw (← e)
 
   module _ (t : TextPlane) (e : ok t ≡ lentOf l) where
-    pub lent-policy : tableRead (statedPolicy none (textOf t) (t .plane)) ≡ tableRead (lentPolicy l)
+    pub lent-policy : tableRead (statedPolicy none (textIn t) (t .plane)) ≡ tableRead (lentPolicy l)
     unfolding lentPolicy
     lent-policy = rw (← e)
 

@@ -4,7 +4,8 @@ use recognizer::Recognized;
 ghost use mathlib.Core.Path.{_≡_};
 ghost use Rattle.recognizer.specs.Told.{tableRead};
 ghost use Rattle.tables.specs.NamedTable.{namedTable, AnswerHeld};
-ghost use Rattle.builder.specs.LentPolicy.{lentPolicy, LentRoom};
+ghost use Rattle.policies.specs.LentPolicy.{lentPolicy};
+ghost use Rattle.sources.specs.LentTable.{LentRoom};
 
 // The table of a lent plane.
 pub fn lent_table(

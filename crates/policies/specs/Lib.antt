@@ -1,0 +1,3 @@
+pub mod LentPolicy
+pub mod DrawnPolicy
+pub mod Source
