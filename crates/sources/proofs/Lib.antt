@@ -1,2 +1,3 @@
 -- Laws of tables.
 pub mod LentTableLaws
+pub mod DrawnTableLaws

@@ -1,1 +1,2 @@
 pub mod LentTable
+pub mod DrawnTable
