@@ -1,0 +1,2 @@
+-- Laws and theorems of stated policies.
+pub mod LentAsLaws
