@@ -1,2 +1,3 @@
 -- Laws and theorems of stated policies.
 pub mod LentAsLaws
+pub mod TurnedPolicy
