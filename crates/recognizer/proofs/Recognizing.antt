@@ -120,6 +120,7 @@ module _ (text : ℕ → List ℕ) (s : Sheet) (some : 0 < s .rules) where
           record {
             slots = omega (arith, p .slots) ∙ counted;
             few = omega (arith, p .slots, counted, room-all {d = d} h l m .few);
+            rules = omega (arith, h .height);
             total = omega (arith, p .total, q);
             light = p .light (omega arith);
             inside = p .inside;

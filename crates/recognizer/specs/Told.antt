@@ -4,7 +4,7 @@ use mathlib.Core.Path.{_≡_}
 use Prim.Native.Nat.{ℕ, _+_, _-_, _*_, _≤_, _<_}
 use lib.ListN.{length}
 use Rattle.lists.specs.Answer.{ok, refused, _>>=_}
-use Rattle.model.specs.Limits.{planeSize, textBytes}
+use Rattle.model.specs.Limits.{planeRows, planeSize, textBytes}
 use Rattle.model.specs.Policies.{policyNumber, orientationNumber}
 use Rattle.model.specs.Refusals.{Reading}
 use Rattle.cells.specs.Held.{Held}
@@ -40,6 +40,7 @@ tableIn name (NotRecognized r) bytes d = refused r
 pub record TableHeld (t : SlotTable) (bytes d : List ℕ) : Type 0 where
   pub slots : t .slots ≡ slotCount (t .inputs) (t .outputs) (t .annotations) (t .rules)
   pub few : t .slots ≤ slotLimit
+  pub rules : t .rules ≤ planeRows
   pub total : t .bytes ≡ length (packed (textsFrom bytes d 1 (t .slots - 1)))
   pub light : t .bytes ≤ t .slots * textBytes
   pub inside : (i : ℕ) → 1 ≤ i → i < t .slots → offsetAt d i + lengthAt d i ≤ length bytes

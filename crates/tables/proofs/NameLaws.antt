@@ -142,8 +142,10 @@ module _ {t : SlotTable} {named : Bool} {bytes ss d o : List ℕ} {count size : 
         texts = texts-are;
         held =
             record {
+              short = n .few;
               slots = h .slots;
               few = h .few;
+              rules = h .rules;
               total = omega (arith, h .total, size-is, ap (λ (ts : List Text). length (packed ts)) texts-are, packed-front name (textsFrom bytes d 1 (t .slots - 1)));
               inside = inside-all;
             };

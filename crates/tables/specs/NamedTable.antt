@@ -7,7 +7,7 @@ use Prim.Native.Nat.{ℕ, _+_, _-_, _*_, _≤_, _<_}
 use lib.ListN.{length, getD}
 use Rattle.lists.specs.Answer.{ok, refused}
 use Rattle.lists.specs.Choose.{choose}
-use Rattle.model.specs.Limits.{textBytes}
+use Rattle.model.specs.Limits.{planeRows, textBytes}
 use Rattle.model.specs.Policies.{policyNumber, orientationNumber}
 use Rattle.model.specs.Refusals.{Reading}
 use Rattle.record.specs.Policy.{Text}
@@ -38,10 +38,12 @@ namedTable (Stands t) bytes d =
     })
 namedTable (NotRecognized r) bytes d = refused r
 
--- its slots lie in the bytes, and their texts have so many bytes
+-- its slots lie in at most 61,440 bytes, and their texts have so many bytes
 pub record NamedHeld (t : SlotTable) (bytes d : List ℕ) : Type 0 where
+  pub short : length bytes ≤ textBytes
   pub slots : t .slots ≡ slotCount (t .inputs) (t .outputs) (t .annotations) (t .rules)
   pub few : t .slots ≤ slotLimit
+  pub rules : t .rules ≤ planeRows
   pub total : t .bytes ≡ length (packed (textsFrom bytes d 0 (t .slots)))
   pub inside : (i : ℕ) → i < t .slots → offsetAt d i + lengthAt d i ≤ length bytes
 

@@ -1,0 +1,3 @@
+-- Laws of the entries.
+pub mod RoomLaws
+pub mod EndLaws

@@ -1,0 +1,164 @@
+// The public entries: the whole reader, from the bytes of a sheet to its record, and the table from a lent plane.
+use model::Refusal;
+use model::limits::TEXT_BYTES;
+use recognizer::Recognized;
+use recognizer::SlotTable;
+use record::Begun;
+use record::Head;
+ghost use mathlib.Core.List.{[], _∷_, map};
+ghost use mathlib.Core.Path.{_≡_};
+ghost use Prim.Native.Nat.{_*_, _≤_};
+ghost use lib.ListN.{length};
+ghost use Rattle.lists.specs.Zeros.{zeros};
+ghost use Rattle.model.specs.Limits.{textBytes};
+ghost use Rattle.record.specs.Slots.{slotLimit};
+ghost use Rattle.recognizer.specs.Told.{tableRead};
+ghost use Rattle.recognizer.specs.declared.Recognized.the-variants.{Stands};
+ghost use Rattle.tables.specs.NamedTable.{namedTable, NamedHeld};
+ghost use Rattle.policies.specs.DrawnPolicy.{walkedPolicy};
+ghost use Rattle.policies.specs.LentPolicy.{lentPolicy};
+ghost use Rattle.builder.specs.Ends.{roomFrom, roomIn, outcomeOf, recordOf, Roomy};
+ghost use Rattle.builder.specs.Entries.{sheetSizes, sheetEnd, lentSizes, lentEnd};
+
+// A record of so many bytes, or why there is none.
+pub enum Outcome {
+    Record(usize),
+    Refused(Refusal),
+}
+
+// Whether the work slices have their lengths.
+pub enum WorkSlices {
+    Enough,
+    Short(Refusal),
+}
+
+// The least lengths of the work slices, in the order in which they are lent.
+const SHEET_SIZES: [usize; 9] = [15360, 15360, 15360, 15360, 4096, 2048, 4160, 61444, 61440];
+
+const LENT_SIZES: [usize; 5] = [4160, 2048, 4160, 12480, 61440];
+
+fn work_slices(lens: &[usize], sizes: &[usize]) -> WorkSlices
+    requires { ⌜ length (now lens) ≡ length (now sizes) ⌝ }
+    ensures { λ r. ⌜ roomIn r ≡ roomFrom 0 (now (lens .entry)) (now (sizes .entry)) ⌝ }
+{
+    let mut i = 0;
+    while i < lens.len() {
+        if lens[i] < sizes[i] {
+            return WorkSlices::Short(Refusal::WorkSliceShort(i, sizes[i]));
+        }
+        i += 1;
+    }
+    WorkSlices::Enough
+}
+
+// The record of a table whose texts stand in slots.
+fn write_table(
+    t: SlotTable,
+    bytes: &[u8],
+    slots: &[u32],
+    scratch: &mut [u8],
+    out: &mut [u8],
+) -> Outcome
+    requires { ⌜ NamedHeld t (now bytes) (now slots) × (3 * slotLimit ≤ length (now slots)) × (textBytes ≤ length (now scratch)) ⌝ }
+    ensures outcome { λ r. ⌜ r ≡ outcomeOf (namedTable (Stands t) (now (bytes .entry)) (now (slots .entry))) (length (now (out .entry))) ⌝ }
+    ensures out { λ _. ⌜ now (out .exit) ≡ recordOf (namedTable (Stands t) (now (bytes .entry)) (now (slots .entry))) (now (out .entry)) ⌝ }
+{
+    let policy = t.policy;
+    let orientation = t.orientation;
+    let head = Head {
+        policy: model::policy_number(policy),
+        orientation: model::orientation_number(orientation),
+        inputs: t.inputs as u32,
+        outputs: t.outputs as u32,
+        annotations: t.annotations as u32,
+        rules: t.rules as u32,
+    };
+    match writer::write_record(bytes, slots, t.slots, t.bytes, head, scratch, out) {
+        Begun::Record(total) => Outcome::Record(total),
+        Begun::NotWritten(r) => Outcome::Refused(r),
+    }
+}
+
+// The record of a drawing. The work slices are left as they come.
+fn sheet_record(
+    s: &[u8],
+    text: &mut [u32],
+    thins: &mut [u32],
+    bodies: &mut [u32],
+    grid: &mut [u32],
+    rects: &mut [u32],
+    spans: &mut [u32],
+    plane: &mut [u32],
+    bytes: &mut [u8],
+    scratch: &mut [u8],
+    out: &mut [u8],
+) -> Outcome
+    requires { ⌜ Roomy (now text ∷ now thins ∷ now bodies ∷ now grid ∷ now rects ∷ now spans ∷ now plane ∷ now bytes ∷ now scratch ∷ []) sheetSizes ⌝ }
+    ensures outcome { λ r. ⌜ r ≡ outcomeOf (tableRead (walkedPolicy (now (s .entry)))) (length (now (out .entry))) ⌝ }
+    ensures out { λ _. ⌜ now (out .exit) ≡ recordOf (tableRead (walkedPolicy (now (s .entry)))) (now (out .entry)) ⌝ }
+{
+    match sources::drawn_table(s, text, thins, bodies, grid, rects, bytes, spans, plane) {
+        Recognized::Stands(t) => write_table(t, &bytes[0..TEXT_BYTES], thins, scratch, out),
+        Recognized::NotRecognized(r) => Outcome::Refused(r),
+    }
+}
+
+// The record of a lent plane. The work slices are left as they come.
+fn lent_record(
+    rows: &[u32],
+    kinds: &[u8],
+    regions: &[u32],
+    offsets: &[u32],
+    sizes: &[u32],
+    bytes: &[u8],
+    plane: &mut [u32],
+    spans: &mut [u32],
+    upright: &mut [u32],
+    slots: &mut [u32],
+    scratch: &mut [u8],
+    out: &mut [u8],
+) -> Outcome
+    requires { ⌜ Roomy (now plane ∷ now spans ∷ now upright ∷ now slots ∷ now scratch ∷ []) lentSizes ⌝ }
+    ensures outcome { λ r. ⌜ r ≡ outcomeOf (tableRead (lentPolicy (record { rows = now (rows .entry); kinds = now (kinds .entry); regions = now (regions .entry); offsets = now (offsets .entry); sizes = now (sizes .entry); bytes = now (bytes .entry) }))) (length (now (out .entry))) ⌝ }
+    ensures out { λ _. ⌜ now (out .exit) ≡ recordOf (tableRead (lentPolicy (record { rows = now (rows .entry); kinds = now (kinds .entry); regions = now (regions .entry); offsets = now (offsets .entry); sizes = now (sizes .entry); bytes = now (bytes .entry) }))) (now (out .entry)) ⌝ }
+{
+    match sources::lent_table(
+        rows,
+        kinds,
+        regions,
+        offsets,
+        sizes,
+        bytes,
+        plane,
+        spans,
+        upright,
+        slots,
+    ) {
+        Recognized::Stands(t) => write_table(t, bytes, slots, scratch, out),
+        Recognized::NotRecognized(r) => Outcome::Refused(r),
+    }
+}
+
+fn clear_two(a: &mut [u8], b: &mut [u8])
+    ensures { λ _. ⌜ (now (a .exit) ∷ now (b .exit) ∷ []) ≡ map zeros (now (a .entry) ∷ now (b .entry) ∷ []) ⌝ }
+{
+    lists::clear_u8(a);
+    lists::clear_u8(b);
+}
+
+fn clear_three(a: &mut [u32], b: &mut [u32], c: &mut [u32])
+    ensures { λ _. ⌜ (now (a .exit) ∷ now (b .exit) ∷ now (c .exit) ∷ []) ≡ map zeros (now (a .entry) ∷ now (b .entry) ∷ now (c .entry) ∷ []) ⌝ }
+{
+    lists::clear_u32(a);
+    lists::clear_u32(b);
+    lists::clear_u32(c);
+}
+
+fn clear_four(a: &mut [u32], b: &mut [u32], c: &mut [u32], d: &mut [u32])
+    ensures { λ _. ⌜ (now (a .exit) ∷ now (b .exit) ∷ now (c .exit) ∷ now (d .exit) ∷ []) ≡ map zeros (now (a .entry) ∷ now (b .entry) ∷ now (c .entry) ∷ now (d .entry) ∷ []) ⌝ }
+{
+    lists::clear_u32(a);
+    lists::clear_u32(b);
+    lists::clear_u32(c);
+    lists::clear_u32(d);
+}
