@@ -1,0 +1,2 @@
+-- Theorems on the policies that drawings and lent planes state.
+pub mod WalkedIsDrawn
