@@ -1,2 +1,4 @@
 -- Theorems on the policies that drawings and lent planes state.
 pub mod WalkedIsDrawn
+pub mod TrimLength
+pub mod DefaultLength
