@@ -2,3 +2,5 @@
 pub mod WalkedIsDrawn
 pub mod TrimLength
 pub mod DefaultLength
+pub mod SpelledShort
+pub mod UprightWithin
