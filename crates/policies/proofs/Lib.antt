@@ -4,3 +4,4 @@ pub mod TrimLength
 pub mod DefaultLength
 pub mod SpelledShort
 pub mod UprightWithin
+pub mod PlaneRecordable

@@ -1,3 +1,4 @@
 pub mod LentPolicy
 pub mod DrawnPolicy
 pub mod Source
+pub mod Recordable
