@@ -5,3 +5,4 @@ pub mod DefaultLength
 pub mod SpelledShort
 pub mod UprightWithin
 pub mod PlaneRecordable
+pub mod LentWithin

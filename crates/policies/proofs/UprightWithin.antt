@@ -13,18 +13,24 @@ use Rattle.lists.specs.Transpose.{width, column, transpose}
 use Rattle.lists.proofs.Tests.{by-flag}
 use Rattle.lists.proofs.TransposeLaws.{length-transpose, width-transpose}
 use Rattle.model.specs.Cells.{turnedCell}
-use Rattle.model.specs.Limits.{planeRows, planeCells}
+use Rattle.model.specs.Limits.{planeRows, planeCells, textBytes}
 use Rattle.model.specs.declared.Cell.the-variants.{MainDoubleCrossing}
 use Rattle.model.specs.declared.Orientation.{Orientation}
 use Rattle.model.specs.declared.Orientation.the-variants.{RulesAsRows, RulesAsColumns}
-use Rattle.cells.specs.Plane.{Plane}
+use Rattle.cells.specs.Plane.{Plane, TextPlane}
 use Rattle.turning.specs.Upright.{butLast, turned, uprightOf}
 use Rattle.plane.proofs.TurnedColumnSheet.{pivot-ok}
+use Rattle.policies.specs.LentPolicy.{textIn}
 
 -- at most 64 rows, the first of at most 64 cells: the clauses stand in that one's columns
 pub record Within (P : Plane) : Type 0 where
   pub rows : length P ≤ planeRows
   pub cells : width P ≤ planeCells
+
+-- a plane within the limits, whose regions' texts have at most 61,440 bytes each
+pub record PlaneWithin (t : TextPlane) : Type 0 where
+  pub plane : Within (t .plane)
+  pub texts : (k : ℕ) → length (textIn t k) ≤ textBytes
 
 rest-within : (P : Plane) → Within P → Within (map (drop 1) P)
 unfolding width
