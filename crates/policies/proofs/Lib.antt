@@ -6,3 +6,5 @@ pub mod SpelledShort
 pub mod UprightWithin
 pub mod PlaneRecordable
 pub mod LentWithin
+pub mod DrawnWithin
+pub mod StatedFits
