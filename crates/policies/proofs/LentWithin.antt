@@ -14,11 +14,10 @@ use Rattle.model.specs.Limits.{planeRows, planeCells, textBytes}
 use Rattle.model.specs.Refusals.{Reading}
 use Rattle.model.specs.declared.Cell.{Cell}
 use Rattle.model.specs.declared.Refusal.the-variants.{LentPlaneMalformed}
+use Rattle.unicode.proofs.TrimLength.{trim-length}
 use Rattle.cells.specs.Plane.{TextPlane}
 use Rattle.lent.specs.LentPlane.{LentPlane, cut, wellFormed, lentCells, lentText, lentOf}
 use Rattle.lent.proofs.FormLaws.{rows-good, parts-good}
-use Rattle.policies.specs.LentPolicy.{textIn}
-use Rattle.policies.proofs.TrimLength.{trim-length}
 use Rattle.policies.proofs.UprightWithin.{Within, PlaneWithin}
 
 length-cut : (rows : List ℕ) (cells : List Cell) → length (cut rows cells) ≡ length rows

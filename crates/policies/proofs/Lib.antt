@@ -1,7 +1,5 @@
 -- Theorems on the policies that drawings and lent planes state.
 pub mod WalkedIsDrawn
-pub mod TrimLength
-pub mod DefaultLength
 pub mod SpelledShort
 pub mod UprightWithin
 pub mod PlaneRecordable

@@ -1,7 +1,7 @@
 -- What a plane within the limits states can be recorded, if its texts are short: the law `plane-recordable`.
 use mathlib.Core.Path.{_≡_, refl, sym, subst, _∙_}
 use mathlib.Core.List.{List, [], _∷_}
-use Prim.Native.Nat.{ℕ, _^_, _≤_, _<_}
+use Prim.Native.Nat.{ℕ, _≤_, _<_}
 use native.Mathlib.Omega.{arith}
 use lib.ListN.{length}
 use Rattle.lists.specs.Answer.{ok}
@@ -11,7 +11,7 @@ use Rattle.lists.proofs.AnswerLaws.{then-ok}
 use Rattle.model.specs.Limits.{planeRows, textBytes}
 use Rattle.cells.specs.Plane.{Plane}
 use Rattle.record.specs.Policy.{Text, Policy}
-use Rattle.record.specs.Record.{slotsIn, slotTexts, total, tableOf}
+use Rattle.record.specs.Record.{slotsIn, slotTexts, tableOf}
 use Rattle.record.specs.Slots.{slotLimit}
 use Rattle.record.proofs.PolicyTexts.{texts-counted}
 use Rattle.record.proofs.TotalFits.{total-fits}

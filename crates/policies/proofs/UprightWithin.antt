@@ -1,15 +1,14 @@
 -- The upright sheet of a plane within the limits is within them.
-use mathlib.Core.Path.{_≡_, refl, subst, sym}
-use mathlib.Core.Bool.{Bool, true, false}
-use mathlib.Core.List.{List, [], _∷_, map}
-use Prim.Native.Nat.{ℕ, zero, suc, _≤_, _<_}
+use mathlib.Core.Path.{_≡_, sym, subst}
+use mathlib.Core.List.{[], _∷_, map}
+use Prim.Native.Nat.{ℕ, _≤_}
 use native.Mathlib.Omega.{arith}
 use lib.Dec.{ltb}
 use lib.ListN.{length, drop, length-drop, length-map}
 use borrow.Author.Tests.{ltb-true, ltb-false}
 use Rattle.lists.specs.Answer.{ok}
 use Rattle.lists.specs.Run.{run}
-use Rattle.lists.specs.Transpose.{width, column, transpose}
+use Rattle.lists.specs.Transpose.{width, transpose}
 use Rattle.lists.proofs.Tests.{by-flag}
 use Rattle.lists.proofs.TransposeLaws.{length-transpose, width-transpose}
 use Rattle.model.specs.Cells.{turnedCell}

@@ -1,4 +1,4 @@
--- What the record of a policy can tell: document 01, "Table record".
+-- Which policies can be recorded: document 01, "Table record".
 use Prim.Native.Nat.{_^_, _<_}
 use lib.ListN.{length}
 use Rattle.record.specs.Policy.{Policy, Complete}

@@ -1,5 +1,5 @@
 -- A default is no longer than the text that it is split from.
-use mathlib.Core.Path.{_≡_, refl}
+use mathlib.Core.Path.{_≡_}
 use mathlib.Core.Bool.{Bool, true, false, _&&_}
 use mathlib.Core.List.{List, [], _∷_}
 use mathlib.Core.Option.{some}
@@ -12,11 +12,11 @@ use Rattle.lists.proofs.AllLaws.{All}
 use Rattle.lists.proofs.Tests.{by-flag}
 use Rattle.unicode.specs.Lines.{join}
 use Rattle.unicode.specs.Trim.{trimStartUtf8, trimUtf8}
+use Rattle.unicode.proofs.TrimLength.{trim-length}
 use Rattle.utils.specs.Commas.{comma, parts}
 use Rattle.utils.specs.Emphasis.{Choice, plain, marked, marks, placed, orElse, startsWith, endsWith, emphasised, firstMarked}
 use Rattle.utils.specs.Split.{choiceOf, valuesBy, valuesOf}
 use Rattle.utils.proofs.Stripping.{strip-length}
-use Rattle.policies.proofs.TrimLength.{trim-length}
 
 -- texts of at most m bytes
 abbrev UpTo : ℕ → List ℕ → Type 0
