@@ -11,4 +11,5 @@ pub mod Apart
 pub mod OnlyTwoSizes
 pub mod ClausesApart
 pub mod SpelledStated
+pub mod ShapeColumns
 pub mod Samples

@@ -67,7 +67,7 @@ module _ (f : ℕ → Text) (x n j : ℕ) (h : j < n) where
   getD-else false d = refl
 
 -- what a check that was passed says
-passed : (t : Bool) (r : Refusal) (u : Unit {0}) → refuse t r ≡ ok u → t ≡ false
+pub passed : (t : Bool) (r : Refusal) (u : Unit {0}) → refuse t r ≡ ok u → t ≡ false
 passed true r u e = refused-ok e
 passed false r u e = refl
 
@@ -75,9 +75,9 @@ no-different : (a b : ℕ) → differ a b ≡ false → a ≡ b
 no-different a b e = eqb-true a b (not-false (eqb a b) e)
 
 -- below the clauses, and behind the annotation crossing if it has annotations, there is a row for each rule
-record RowsMatch (rows rules : ℕ) (s : Shape) : Type 0 where
-  entries : rows - (s .height + 1) ≡ rules
-  notes : 0 < s .notes .count → rows - s .notes .row ≡ rules
+pub record RowsMatch (rows rules : ℕ) (s : Shape) : Type 0 where
+  pub entries : rows - (s .height + 1) ≡ rules
+  pub notes : 0 < s .notes .count → rows - s .notes .row ≡ rules
 
 sizes-match : (rows rules : ℕ) (s : Shape) (u : Unit {0}) → sizesOf rows rules s ≡ ok u → RowsMatch rows rules s
 unfolding sizesOf
@@ -88,7 +88,7 @@ sizes-match rows rules s u e =
       notes = λ k. no-different _ _ (passed _ (InvalidSize 12) u (rw (lt-ltb 0 (s .notes .count) k) at (p .2)));
     }
 
-checked-matches : (P : Plane) (rules : ℕ) (s : Shape) → checkedShape P rules ≡ ok s → RowsMatch (length P) rules s
+pub checked-matches : (P : Plane) (rules : ℕ) (s : Shape) → checkedShape P rules ≡ ok s → RowsMatch (length P) rules s
 unfolding checkedShape
 checked-matches P rules s e =
     let a = then-ok (shapeOf P (placeOf MainDoubleCrossing P) (placeOf HorizontalDoubleCrossing P)) _ s e in

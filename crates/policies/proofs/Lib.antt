@@ -1,3 +1,10 @@
--- Laws and theorems of stated policies.
+-- Theorems on the policies that drawings and lent planes state.
+pub mod WalkedIsDrawn
+pub mod SpelledShort
+pub mod UprightWithin
+pub mod PlaneRecordable
+pub mod LentWithin
+pub mod DrawnWithin
+pub mod StatedFits
 pub mod LentAsLaws
 pub mod TurnedPolicy

@@ -1,4 +1,5 @@
 pub mod LentPolicy
 pub mod DrawnPolicy
 pub mod Source
+pub mod Recordable
 pub mod TurnedPlane

@@ -1,2 +1,2 @@
 -- Laws of what a plane states.
-mod Recognizing
+pub mod Recognizing

@@ -36,7 +36,7 @@ use Rattle.recognizer.specs.declared.SlotTable.{SlotTable}
 use Rattle.recognizer.specs.declared.Recognized.the-variants.{Stands, NotRecognized}
 
 -- a policy of what the clause rules give
-abbrev with : Text → Sheet → Clauses → Policy
+abbrev pub with : Text → Sheet → Clauses → Policy
 with name s c =
     record {
       name = name;
@@ -49,13 +49,13 @@ with name s c =
       rules = c .rules;
     }
 
-with-texts : (name : Text) (s : Sheet) (c : Clauses) → slotTexts (with name s c) ≡ name ∷ clauseTexts c
+pub with-texts : (name : Text) (s : Sheet) (c : Clauses) → slotTexts (with name s c) ≡ name ∷ clauseTexts c
 unfolding slotTexts clauseTexts
 with-texts name s c = refl
 
 module _ (text : ℕ → List ℕ) (s : Sheet) (some : 0 < s .rules) where
   -- by the shape
-  by-shape : (name : Text) → sheetPolicy name text s ≡ _>>=_ (checkedShape (s .plane) (s .rules)) (λ f. ok (with name s (statedBy (foundAs text (s .plane) f) (s .rules))))
+  pub by-shape : (name : Text) → sheetPolicy name text s ≡ _>>=_ (checkedShape (s .plane) (s .rules)) (λ f. ok (with name s (statedBy (foundAs text (s .plane) f) (s .rules))))
   unfolding sheetPolicy
   by-shape name = rw (clauses-apart text (s .plane) (s .rules) some) (go (checkedShape (s .plane) (s .rules)))
     where
@@ -68,17 +68,17 @@ module _ (text : ℕ → List ℕ) (s : Sheet) (some : 0 < s .rules) where
   not-shaped r e name = rw (by-shape name, ← e)
 
   module _ (f : Shape) (e : ok f ≡ checkedShape (s .plane) (s .rules)) where
-    abbrev stated : Clauses
+    abbrev pub stated : Clauses
     stated = statedBy (foundAs text (s .plane) f) (s .rules)
 
     -- the policy that a sheet of a shape states
     pub shaped : (name : Text) → sheetPolicy name text s ≡ ok (with name s stated)
     shaped name = by-shape name ∙ rw (← e)
 
-    complete : (name : Text) → Complete (with name s stated)
+    pub complete : (name : Text) → Complete (with name s stated)
     complete name = complete-stated text (s .plane) (s .rules) f (sym e)
 
-    texts-spelled : clauseTexts stated ≡ spelled text (s .plane) f (s .rules)
+    pub texts-spelled : clauseTexts stated ≡ spelled text (s .plane) f (s .rules)
     texts-spelled = spelled-stated text (s .plane) (s .rules) f (sym e)
 
     -- the numbers of its table

@@ -24,7 +24,7 @@ module _ (p : Picture) (rs : List Rect) where
   texts-over h = rw (lt-ltb textBytes (length (packed (map (textOf p) rs))) h)
 
   -- texts that are not refused
-  texts-are : (ts : List (List ℕ)) → textsOf p rs ≡ ok ts → (length (packed (map (textOf p) rs)) ≤ textBytes) × (map (textOf p) rs ≡ ts)
+  pub texts-are : (ts : List (List ℕ)) → textsOf p rs ≡ ok ts → (length (packed (map (textOf p) rs)) ≤ textBytes) × (map (textOf p) rs ≡ ts)
   unfolding textsOf
   texts-are ts e =
       by-flag (ltb textBytes (length (packed (map (textOf p) rs))))

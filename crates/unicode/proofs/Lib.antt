@@ -7,3 +7,4 @@ pub mod LineLaws
 pub mod Stored
 pub mod Inverse
 pub mod TrimUtf8Laws
+pub mod TrimLength

@@ -10,4 +10,5 @@ pub mod Commas
 pub mod Replacing
 pub mod Finding
 pub mod Answers
+pub mod DefaultLength
 pub mod Examples
