@@ -1,0 +1,2 @@
+-- Definitions of the lines of a record.
+pub mod RecordLines
