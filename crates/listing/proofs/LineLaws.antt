@@ -9,7 +9,15 @@ use lib.ListN.{length, take, drop, length-drop}
 use lib.Seq.{length-take-le}
 use Rattle.print.specs.Decimal.{Written}
 use Rattle.print.proofs.WrittenLaws.{written-nil, written-then, written-within, written-as}
-use Rattle.listing.specs.RecordLines.{slotsHeld, offsetOf, lengthOf, isAbsent, absentLine, presentLine, slotLine, slotLines, wordLines, recordLines, lengths, Sound, headRoom, lineRoom}
+use Rattle.listing.specs.RecordLines.{slotsHeld, offsetOf, lengthOf, isAbsent, absentLine, presentLine, slotLine, slotLines, headRead, recordLines, lengths, Sound, headRoom, lineRoom}
+
+-- four parts, one behind the other
+pub written-four : {d o u v e x y z w : List ℕ} {at a b c n p q s t : ℕ} → Written d o at x a p → Written o u p y b q → Written u v q z c s → Written v e s w n t
+    → length o ≡ length d → length u ≡ length o → at + a + b + c ≤ length d → Written d e at (x ++ (y ++ (z ++ w))) (a + (b + (c + n))) t
+written-four w1 w2 w3 w4 k l h =
+    written-then w1
+    (written-then w2 (written-then w3 w4 (omega (arith, w1 .short, w2 .short, w3 .short))) (omega (arith, w1 .short, w2 .short)))
+    (omega (arith, w1 .short))
 
 -- a part of the bytes
 pub written-part : (r : List ℕ) (offset size : ℕ) {d o : List ℕ} {at a : ℕ} → offset + size ≤ length r
@@ -84,10 +92,10 @@ module _ {o₀ : List ℕ} {at : ℕ} {r o : List ℕ} {n i : ℕ} (q : Listing 
 
 -- all lines are written
 pub listing-end : {o₀ : List ℕ} {at : ℕ} {r o : List ℕ} {n i : ℕ} {d : List ℕ} {a : ℕ} → Listing o₀ at r o n i → Sound r → slotsHeld r ≤ i
-    → Written d o₀ a (wordLines r) headRoom at → at ≤ length d → Written d o a (recordLines r) (lineRoom (length r)) n
+    → Written d o₀ a (headRead r) headRoom at → at ≤ length d → Written d o a (recordLines r) (lineRoom (length r)) n
 unfolding recordLines
 listing-end {o₀} {at} {r} {o} {n} {i} {d} {a} q s h u l =
     let b = q .along in
     let z : i ≡ slotsHeld r = omega arith in
     let p : lengths r 0 i ≤ length r = rw z (s .packed) in
-    written-within (written-as (written-then u (q .written) l) (ap (λ (k : ℕ). wordLines r ++ slotLines r 0 k) z)) (omega (arith, s .few))
+    written-within (written-as (written-then u (q .written) l) (ap (λ (k : ℕ). headRead r ++ slotLines r 0 k) z)) (omega (arith, s .few))

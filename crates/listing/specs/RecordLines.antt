@@ -87,21 +87,27 @@ annotationsWord = 0x61 ∷ 0x6E ∷ 0x6E ∷ 0x6F ∷ 0x74 ∷ 0x61 ∷ 0x74 ∷
 abbrev pub rulesWord : List ℕ
 rulesWord = 0x72 ∷ 0x75 ∷ 0x6C ∷ 0x65 ∷ 0x73 ∷ 0x20 ∷ []
 
--- seven numbers, a line each
-unfoldable pub headLines : ℕ → ℕ → ℕ → ℕ → ℕ → ℕ → ℕ → List ℕ
-headLines total policy orientation inputs outputs annotations rules =
-    countLine bytesWord total
-    ++ (countLine policyWord policy
-    ++ (countLine orientationWord orientation
-    ++ (countLine inputsWord inputs ++ (countLine outputsWord outputs ++ (countLine annotationsWord annotations ++ countLine rulesWord rules)))))
+-- the counts of a table, a line each
+unfoldable pub countLines : ℕ → ℕ → ℕ → ℕ → List ℕ
+countLines inputs outputs annotations rules =
+    countLine inputsWord inputs ++ (countLine outputsWord outputs ++ (countLine annotationsWord annotations ++ countLine rulesWord rules))
 
--- the first seven words of a record, a line each
-abbrev pub wordLines : List ℕ → List ℕ
-wordLines r = headLines (wordAt r 0) (wordAt r 4) (wordAt r 8) (wordAt r 12) (wordAt r 16) (wordAt r 20) (wordAt r 24)
+-- total bytes, policy and orientation in front of the lines of the counts
+unfoldable pub headLines : ℕ → ℕ → ℕ → List ℕ → List ℕ
+headLines total policy orientation counts =
+    countLine bytesWord total ++ (countLine policyWord policy ++ (countLine orientationWord orientation ++ counts))
+
+-- the counts among the words of a record
+abbrev pub countsRead : List ℕ → List ℕ
+countsRead r = countLines (wordAt r 12) (wordAt r 16) (wordAt r 20) (wordAt r 24)
+
+-- its first seven words
+abbrev pub headRead : List ℕ → List ℕ
+headRead r = headLines (wordAt r 0) (wordAt r 4) (wordAt r 8) (countsRead r)
 
 -- the lines of a record: its numbers, and its slots in order
 unfoldable pub recordLines : List ℕ → List ℕ
-recordLines r = wordLines r ++ slotLines r 0 (slotsHeld r)
+recordLines r = headRead r ++ slotLines r 0 (slotsHeld r)
 
 -- the lengths of n slots from i on, together
 unfoldable pub lengths : List ℕ → ℕ → ℕ → ℕ
@@ -115,7 +121,10 @@ pub record Sound (r : List ℕ) : Type 0 where
   pub inside : (i : ℕ) → i < slotsHeld r → offsetOf r i + lengthOf r i ≤ length r
   pub packed : lengths r 0 (slotsHeld r) ≤ length r
 
--- room for seven numbers behind their words
+-- room for the four counts, and for all seven numbers, behind their words
+abbrev pub countRoom : ℕ
+countRoom = 117
+
 abbrev pub headRoom : ℕ
 headRoom = 205
 

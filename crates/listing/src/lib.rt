@@ -5,7 +5,7 @@ ghost use lib.ListN.{length, take, drop};
 ghost use Rattle.print.specs.Decimal.{Written};
 ghost use Rattle.print.specs.Lines.{countLine};
 ghost use Rattle.record.specs.Compared.{wordAt};
-ghost use Rattle.listing.specs.RecordLines.{isAbsent, offsetOf, lengthOf, partWords, slotLine, wordLines, headRoom, recordLines, Sound, lineRoom};
+ghost use Rattle.listing.specs.RecordLines.{isAbsent, offsetOf, lengthOf, partWords, slotLine, countsRead, countRoom, headRead, headRoom, recordLines, Sound, lineRoom};
 
 fn wide(x: u8) -> usize
     ensures { λ r. ⌜ (r ≡ x) × (r < 256) ⌝ }
@@ -40,18 +40,26 @@ fn put_line(out: &mut [u8], at: usize, name: &[u8], bytes: &[u8], k: usize) -> u
     print::put_count(out, at, name, word_at(bytes, k))
 }
 
-// The first seven words, a line each.
+// The counts, a line each.
+fn put_counts(out: &mut [u8], at: usize, bytes: &[u8]) -> usize
+    requires { ⌜ (at + countRoom ≤ length (now out)) × (28 ≤ length (now bytes)) ⌝ }
+    ensures { λ r. ⌜ Written (now (out .entry)) (now (out .exit)) at (countsRead (now (bytes .entry))) countRoom r ⌝ }
+{
+    let a = put_line(out, at, b"inputs ", bytes, 12);
+    let b = put_line(out, a, b"outputs ", bytes, 16);
+    let c = put_line(out, b, b"annotations ", bytes, 20);
+    put_line(out, c, b"rules ", bytes, 24)
+}
+
+// Total bytes, policy, orientation and the counts, a line each.
 fn put_head(out: &mut [u8], at: usize, bytes: &[u8]) -> usize
     requires { ⌜ (at + headRoom ≤ length (now out)) × (28 ≤ length (now bytes)) ⌝ }
-    ensures { λ r. ⌜ Written (now (out .entry)) (now (out .exit)) at (wordLines (now (bytes .entry))) headRoom r ⌝ }
+    ensures { λ r. ⌜ Written (now (out .entry)) (now (out .exit)) at (headRead (now (bytes .entry))) headRoom r ⌝ }
 {
     let a = put_line(out, at, b"bytes ", bytes, 0);
     let b = put_line(out, a, b"policy ", bytes, 4);
     let c = put_line(out, b, b"orientation ", bytes, 8);
-    let d = put_line(out, c, b"inputs ", bytes, 12);
-    let e = put_line(out, d, b"outputs ", bytes, 16);
-    let f = put_line(out, e, b"annotations ", bytes, 20);
-    put_line(out, f, b"rules ", bytes, 24)
+    put_counts(out, c, bytes)
 }
 
 // The offset and the length of a part, and the part.
