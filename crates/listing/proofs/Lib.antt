@@ -3,3 +3,4 @@ pub mod LineLaws
 pub mod ReadLaws
 pub mod SoundLaws
 pub mod ListingLaws
+pub mod Sample

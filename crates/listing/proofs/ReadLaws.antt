@@ -53,8 +53,8 @@ holds-all t d c h =
       room = omega (arith, ap length e, length-append H (S ++ (T ++ d)), length-append S (T ++ d), length-append T d);
       slots = ap (drop 40) e ∙ drop-at H (S ++ (T ++ d)) 40 lH;
       texts =
-        ap (drop (textOffset (slotsIn t))) (e ∙ sym (append-assoc H S (T ++ d)))
-        ∙ drop-at (H ++ S) (T ++ d) (textOffset (slotsIn t)) (omega arith);
+          ap (drop (textOffset (slotsIn t))) (e ∙ sym (append-assoc H S (T ++ d)))
+          ∙ drop-at (H ++ S) (T ++ d) (textOffset (slotsIn t)) (omega arith);
     }
 
 length-slot : (o : ℕ) (u : Text) → length (slotOf o u) ≡ 8

@@ -50,11 +50,12 @@ partWords offset size text =
 unfoldable pub presentLine : ℕ → ℕ → ℕ → List ℕ → List ℕ
 presentLine i offset size text = slotWord ++ (decimal i ++ partWords offset size text)
 
+-- the line of slot i
 unfoldable pub slotLine : List ℕ → ℕ → List ℕ
 slotLine r i =
     choose (isAbsent (offsetOf r i) (lengthOf r i)) (absentLine i) (presentLine i (offsetOf r i) (lengthOf r i) (textOf r i))
 
--- n slots from i on
+-- the lines of n slots from i on
 unfoldable pub slotLines : List ℕ → ℕ → ℕ → List ℕ
 slotLines r i zero = []
 slotLines r i (suc n) = slotLine r i ++ slotLines r (suc i) n
@@ -109,7 +110,7 @@ headRead r = headLines (wordAt r 0) (wordAt r 4) (wordAt r 8) (countsRead r)
 unfoldable pub recordLines : List ℕ → List ℕ
 recordLines r = headRead r ++ slotLines r 0 (slotsHeld r)
 
--- the lengths of n slots from i on, together
+-- the lengths of n slots from i on, added up
 unfoldable pub lengths : List ℕ → ℕ → ℕ → ℕ
 lengths r i zero = 0
 lengths r i (suc n) = lengthOf r i + lengths r (suc i) n

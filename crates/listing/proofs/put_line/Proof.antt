@@ -1,6 +1,5 @@
 -- `listing::put_line` meets its contract.
 use mathlib.Core.Path.{ap}
-use Prim.Native.Nat.{ℕ}
 use Rattle.print.specs.Lines.{countLine}
 use Rattle.print.proofs.WrittenLaws.{written-as}
 use borrow.Author.Needs.{needs}
