@@ -41,7 +41,7 @@ absentWord = 0x20 ∷ 0x61 ∷ 0x62 ∷ 0x73 ∷ 0x65 ∷ 0x6E ∷ 0x74 ∷ line
 unfoldable pub absentLine : ℕ → List ℕ
 absentLine i = slotWord ++ (decimal i ++ absentWord)
 
--- OFFSET LENGTH TEXT, each behind a blank
+-- OFFSET LENGTH TEXT, each behind a blank, and a line feed
 unfoldable pub partWords : ℕ → ℕ → List ℕ → List ℕ
 partWords offset size text =
     (blank ∷ decimal offset) ++ ((blank ∷ decimal size) ++ ((blank ∷ []) ++ (text ++ (lineFeed ∷ []))))
