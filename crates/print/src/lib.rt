@@ -28,7 +28,7 @@ pub fn put_number(out: &mut [u8], at: usize, n: u64) -> usize
 }
 
 // A blank and a number.
-fn put_behind(out: &mut [u8], at: usize, n: u64) -> usize
+pub fn put_behind(out: &mut [u8], at: usize, n: u64) -> usize
     requires { ⌜ at + 21 ≤ length (now out) ⌝ }
     ensures { λ r. ⌜ Written (now (out .entry)) (now (out .exit)) at (0x20 ∷ decimal n) 21 r ⌝ }
 {
@@ -205,7 +205,7 @@ fn put_region(
 }
 
 // A count behind a word.
-fn put_count(out: &mut [u8], at: usize, word: &[u8], n: usize) -> usize
+pub fn put_count(out: &mut [u8], at: usize, word: &[u8], n: usize) -> usize
     requires { ⌜ at + length (now word) + 21 ≤ length (now out) ⌝ }
     ensures { λ r. ⌜ Written (now (out .entry)) (now (out .exit)) at (countLine (now (word .entry)) n) (length (now (word .entry)) + 21) r ⌝ }
 {
