@@ -29,7 +29,7 @@ same-length-4 c = search needs
 
 returns : tie.Need-returns
 returns c =
-    rw (c .before .before .before .before .before .before .before .before .before .before .before .before .before .before .clear-u32 .ensures, c .before .before .before .before .before .before .before .before .before .before .clear-u322 .ensures, c .before .before .before .before .before .before .clear-u323 .ensures, c .before .before .clear-u324 .ensures)
+    (c .before .before .before .before .before .before .before .before .before .before .before .before .before .before .clear-u32 .ensures, c .before .before .before .before .before .before .before .before .before .before .clear-u322 .ensures, c .before .before .before .before .before .before .clear-u323 .ensures, c .before .before .clear-u324 .ensures)
 
 pub clear-four-spec : {M : Type 1} → statement M
 clear-four-spec =

@@ -23,7 +23,7 @@ same-length-3 c = search needs
 
 returns : tie.Need-returns
 returns c =
-    rw (c .before .before .before .before .before .before .before .before .before .before .clear-u32 .ensures, c .before .before .before .before .before .before .clear-u322 .ensures, c .before .before .clear-u323 .ensures)
+    (c .before .before .before .before .before .before .before .before .before .before .clear-u32 .ensures, c .before .before .before .before .before .before .clear-u322 .ensures, c .before .before .clear-u323 .ensures)
 
 pub clear-three-spec : {M : Type 1} → statement M
 clear-three-spec =

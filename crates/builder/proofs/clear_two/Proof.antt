@@ -17,7 +17,7 @@ same-length-2 c = search needs
 
 returns : tie.Need-returns
 returns c =
-    rw (c .before .before .before .before .before .before .clear-u8 .ensures, c .before .before .clear-u82 .ensures)
+    (c .before .before .before .before .before .before .clear-u8 .ensures, c .before .before .clear-u82 .ensures)
 
 pub clear-two-spec : {M : Type 1} → statement M
 clear-two-spec =
