@@ -1,3 +1,2 @@
--- Laws of what a lent plane states.
+-- Laws of answers.
 pub mod AnswerLaws
-mod TableLaws

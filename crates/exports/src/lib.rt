@@ -1,153 +1,82 @@
-// Functions for programs in C or Rust.
+// The three entries for programs in C or Rust: a slice is a pointer and a count, an outcome is numbers.
+use builder::Outcome;
 use model::Refusal;
-use plane::Stated;
-use plane::StatedSheet;
-use recognizer::Recognized;
-use recognizer::SlotTable;
+use utils::Split;
+ghost use mathlib.Core.List.{[], _∷_};
 ghost use mathlib.Core.Path.{_≡_};
-ghost use Rattle.model.specs.Policies.{policyNumber, orientationNumber};
-ghost use Rattle.lists.specs.Answer.{refused};
-ghost use Rattle.plane.specs.LentSheet.{lentSheet, WorkRoom};
-ghost use Rattle.recognizer.specs.Told.{tableRead};
-ghost use Rattle.policies.specs.LentPolicy.{lentPolicy};
-ghost use Rattle.sources.specs.LentTable.{LentRoom};
-ghost use Rattle.exports.specs.Answers.{answerOf, SheetIn};
-ghost use Rattle.exports.specs.TableAnswers.{tableAnswerOf, TextsIn};
+ghost use Rattle.builder.specs.Entries.{sheetEnd, lentEnd};
+ghost use Rattle.exports.specs.Answers.{refusalAnswer, answerOf, splitAnswer, SplitTold};
 
-// A refusal's numbers; or n = 0, and a sheet's orientation, policy, rules and rows.
+// n = 0 and a record of `a` bytes, or a refusal's N, A and B.
 #[repr(C)]
-pub struct LentAnswer {
+pub struct Answer {
     pub n: u64,
     pub a: u64,
     pub b: u64,
-    pub orientation: u32,
-    pub policy: u32,
-    pub rules: u64,
-    pub rows: usize,
 }
 
-fn refusal(r: Refusal) -> LentAnswer
-    ensures { λ x. ⌜ x ≡ answerOf (refused r) ⌝ }
+fn refusal_answer(r: Refusal) -> Answer
+    ensures { λ x. ⌜ x ≡ refusalAnswer r ⌝ }
 {
     let x = model::refusal_numbers(r);
-    LentAnswer {
+    Answer {
         n: x.n,
         a: x.a,
         b: x.b,
-        orientation: 0,
-        policy: 0,
-        rules: 0,
-        rows: 0,
     }
 }
 
-fn sheet(s: Stated) -> LentAnswer
-    ensures { λ x. ⌜ x ≡ record { n = 0; a = 0; b = 0; orientation = orientationNumber (s .orientation); policy = policyNumber (s .policy); rules = s .rules; rows = s .rows } ⌝ }
+fn outcome_answer(o: Outcome) -> Answer
+    ensures { λ x. ⌜ x ≡ answerOf o ⌝ }
 {
-    let orientation = s.orientation;
-    let policy = s.policy;
-    LentAnswer {
-        n: 0,
-        a: 0,
-        b: 0,
-        orientation: model::orientation_number(orientation),
-        policy: model::policy_number(policy),
-        rules: s.rules,
-        rows: s.rows,
+    match o {
+        Outcome::Record(total) => Answer {
+            n: 0,
+            a: total as u64,
+            b: 0,
+        },
+        Outcome::Refused(r) => refusal_answer(r),
     }
 }
 
-// What a lent plane states before the clause rules; the upright sheet goes into `out`.
+// The whole reader.
 #[no_mangle]
-pub extern "C" fn fezandimo_upright(
-    rows: &[u32],
-    kinds: &[u8],
-    regions: &[u32],
-    offsets: &[u32],
-    sizes: &[u32],
-    bytes: &[u8],
-    plane: &mut [u32],
+pub extern "C" fn fezandimo_read_sheet(
+    s: &[u8],
+    text: &mut [u32],
+    thins: &mut [u32],
+    bodies: &mut [u32],
+    grid: &mut [u32],
+    rects: &mut [u32],
     spans: &mut [u32],
-    out: &mut [u32],
-) -> LentAnswer
-    requires { ⌜ WorkRoom (now plane) (now spans) (now out) ⌝ }
-    ensures answer { λ r. ⌜ r ≡ answerOf (lentSheet (record { rows = now (rows .entry); kinds = now (kinds .entry); regions = now (regions .entry); offsets = now (offsets .entry); sizes = now (sizes .entry); bytes = now (bytes .entry) })) ⌝ }
-    ensures upright { λ _. ⌜ SheetIn (lentSheet (record { rows = now (rows .entry); kinds = now (kinds .entry); regions = now (regions .entry); offsets = now (offsets .entry); sizes = now (sizes .entry); bytes = now (bytes .entry) })) (now (out .exit)) ⌝ }
+    plane: &mut [u32],
+    bytes: &mut [u8],
+    scratch: &mut [u8],
+    out: &mut [u8],
+) -> Answer
+    ensures answer { λ r. ⌜ r ≡ answerOf (sheetEnd (now (s .entry)) (now (text .entry) ∷ now (thins .entry) ∷ now (bodies .entry) ∷ now (grid .entry) ∷ now (rects .entry) ∷ now (spans .entry) ∷ now (plane .entry) ∷ now (bytes .entry) ∷ now (scratch .entry) ∷ []) (now (out .entry)) .outcome) ⌝ }
+    ensures works { λ _. ⌜ (now (text .exit) ∷ now (thins .exit) ∷ now (bodies .exit) ∷ now (grid .exit) ∷ now (rects .exit) ∷ now (spans .exit) ∷ now (plane .exit) ∷ now (bytes .exit) ∷ now (scratch .exit) ∷ []) ≡ sheetEnd (now (s .entry)) (now (text .entry) ∷ now (thins .entry) ∷ now (bodies .entry) ∷ now (grid .entry) ∷ now (rects .entry) ∷ now (spans .entry) ∷ now (plane .entry) ∷ now (bytes .entry) ∷ now (scratch .entry) ∷ []) (now (out .entry)) .works ⌝ }
+    ensures out { λ _. ⌜ now (out .exit) ≡ sheetEnd (now (s .entry)) (now (text .entry) ∷ now (thins .entry) ∷ now (bodies .entry) ∷ now (grid .entry) ∷ now (rects .entry) ∷ now (spans .entry) ∷ now (plane .entry) ∷ now (bytes .entry) ∷ now (scratch .entry) ∷ []) (now (out .entry)) .out ⌝ }
 {
-    match plane::lent_sheet(
-        rows,
-        kinds,
-        regions,
-        offsets,
-        sizes,
-        bytes,
-        plane,
+    let o = builder::read_sheet(
+        s,
+        text,
+        thins,
+        bodies,
+        grid,
+        rects,
         spans,
+        plane,
+        bytes,
+        scratch,
         out,
-    ) {
-        StatedSheet::Upright(s) => sheet(s),
-        StatedSheet::NotStated(r) => refusal(r),
-    }
+    );
+    outcome_answer(o)
 }
 
-// A refusal's numbers; or n = 0, and a table's numbers, its slots and the bytes of their texts.
-#[repr(C)]
-pub struct TableAnswer {
-    pub n: u64,
-    pub a: u64,
-    pub b: u64,
-    pub policy: u32,
-    pub orientation: u32,
-    pub inputs: usize,
-    pub outputs: usize,
-    pub annotations: usize,
-    pub rules: usize,
-    pub slots: usize,
-    pub bytes: usize,
-}
-
-fn no_table(r: Refusal) -> TableAnswer
-    ensures { λ x. ⌜ x ≡ tableAnswerOf (refused r) ⌝ }
-{
-    let x = model::refusal_numbers(r);
-    TableAnswer {
-        n: x.n,
-        a: x.a,
-        b: x.b,
-        policy: 0,
-        orientation: 0,
-        inputs: 0,
-        outputs: 0,
-        annotations: 0,
-        rules: 0,
-        slots: 0,
-        bytes: 0,
-    }
-}
-
-fn table(t: SlotTable) -> TableAnswer
-    ensures { λ x. ⌜ x ≡ record { n = 0; a = 0; b = 0; policy = policyNumber (t .policy); orientation = orientationNumber (t .orientation); inputs = t .inputs; outputs = t .outputs; annotations = t .annotations; rules = t .rules; slots = t .slots; bytes = t .bytes } ⌝ }
-{
-    let policy = t.policy;
-    let orientation = t.orientation;
-    TableAnswer {
-        n: 0,
-        a: 0,
-        b: 0,
-        policy: model::policy_number(policy),
-        orientation: model::orientation_number(orientation),
-        inputs: t.inputs,
-        outputs: t.outputs,
-        annotations: t.annotations,
-        rules: t.rules,
-        slots: t.slots,
-        bytes: t.bytes,
-    }
-}
-
-// The table of a lent plane; its texts go into the slots.
+// The table from a lent plane.
 #[no_mangle]
-pub extern "C" fn fezandimo_lent_slots(
+pub extern "C" fn fezandimo_read_lent_plane(
     rows: &[u32],
     kinds: &[u8],
     regions: &[u32],
@@ -158,12 +87,14 @@ pub extern "C" fn fezandimo_lent_slots(
     spans: &mut [u32],
     upright: &mut [u32],
     slots: &mut [u32],
-) -> TableAnswer
-    requires { ⌜ LentRoom (now plane) (now spans) (now upright) (now slots) ⌝ }
-    ensures answer { λ r. ⌜ r ≡ tableAnswerOf (tableRead (lentPolicy (record { rows = now (rows .entry); kinds = now (kinds .entry); regions = now (regions .entry); offsets = now (offsets .entry); sizes = now (sizes .entry); bytes = now (bytes .entry) }))) ⌝ }
-    ensures texts { λ _. ⌜ TextsIn (tableRead (lentPolicy (record { rows = now (rows .entry); kinds = now (kinds .entry); regions = now (regions .entry); offsets = now (offsets .entry); sizes = now (sizes .entry); bytes = now (bytes .entry) }))) (now (bytes .entry)) (now (slots .exit)) ⌝ }
+    scratch: &mut [u8],
+    out: &mut [u8],
+) -> Answer
+    ensures answer { λ r. ⌜ r ≡ answerOf (lentEnd (record { rows = now (rows .entry); kinds = now (kinds .entry); regions = now (regions .entry); offsets = now (offsets .entry); sizes = now (sizes .entry); bytes = now (bytes .entry) }) (now (plane .entry) ∷ now (spans .entry) ∷ now (upright .entry) ∷ now (slots .entry) ∷ now (scratch .entry) ∷ []) (now (out .entry)) .outcome) ⌝ }
+    ensures works { λ _. ⌜ (now (plane .exit) ∷ now (spans .exit) ∷ now (upright .exit) ∷ now (slots .exit) ∷ now (scratch .exit) ∷ []) ≡ lentEnd (record { rows = now (rows .entry); kinds = now (kinds .entry); regions = now (regions .entry); offsets = now (offsets .entry); sizes = now (sizes .entry); bytes = now (bytes .entry) }) (now (plane .entry) ∷ now (spans .entry) ∷ now (upright .entry) ∷ now (slots .entry) ∷ now (scratch .entry) ∷ []) (now (out .entry)) .works ⌝ }
+    ensures out { λ _. ⌜ now (out .exit) ≡ lentEnd (record { rows = now (rows .entry); kinds = now (kinds .entry); regions = now (regions .entry); offsets = now (offsets .entry); sizes = now (sizes .entry); bytes = now (bytes .entry) }) (now (plane .entry) ∷ now (spans .entry) ∷ now (upright .entry) ∷ now (slots .entry) ∷ now (scratch .entry) ∷ []) (now (out .entry)) .out ⌝ }
 {
-    match sources::lent_table(
+    let o = builder::read_lent_plane(
         rows,
         kinds,
         regions,
@@ -174,8 +105,67 @@ pub extern "C" fn fezandimo_lent_slots(
         spans,
         upright,
         slots,
-    ) {
-        Recognized::Stands(t) => table(t),
-        Recognized::NotRecognized(r) => no_table(r),
+        scratch,
+        out,
+    );
+    outcome_answer(o)
+}
+
+// A refusal's N, A and B; or n = 0, and whether the values are rewritten: so many bytes of the scratch slice are then the
+// allowed values, and the text's bytes between two places the default.
+#[repr(C)]
+pub struct SplitAnswer {
+    pub n: u64,
+    pub a: u64,
+    pub b: u64,
+    pub rewritten: u64,
+    pub length: usize,
+    pub from: usize,
+    pub to: usize,
+}
+
+fn split_numbers(s: Split) -> SplitAnswer
+    ensures { λ x. ⌜ x ≡ splitAnswer s ⌝ }
+{
+    match s {
+        Split::Own => SplitAnswer {
+            n: 0,
+            a: 0,
+            b: 0,
+            rewritten: 0,
+            length: 0,
+            from: 0,
+            to: 0,
+        },
+        Split::Rewritten(length, from, to) => SplitAnswer {
+            n: 0,
+            a: 0,
+            b: 0,
+            rewritten: 1,
+            length,
+            from,
+            to,
+        },
+        Split::NotSplit(r) => {
+            let x = model::refusal_numbers(r);
+            SplitAnswer {
+                n: x.n,
+                a: x.a,
+                b: x.b,
+                rewritten: 0,
+                length: 0,
+                from: 0,
+                to: 0,
+            }
+        }
     }
+}
+
+// The value split.
+#[no_mangle]
+pub extern "C" fn fezandimo_split_values(text: &[u8], scratch: &mut [u8]) -> SplitAnswer
+    ensures { λ r. ⌜ SplitTold r (now (text .entry)) (now (scratch .entry)) (now (scratch .exit)) ⌝ }
+{
+    let s = utils::split_values(text, scratch);
+    split_numbers(s)
 }

@@ -1,0 +1,46 @@
+-- `exports::fezandimo_read_lent_plane` meets its contract.
+use Rattle.exports.proofs.AnswerLaws.{end-told}
+use borrow.Author.Needs.{needs}
+use Rattle.exports.proofs.fezandimo_read_lent_plane.Statement.{statement}
+use Rattle.exports.proofs.fezandimo_read_lent_plane.Tie as tie
+
+read-lent-plane-requires : tie.Need-read-lent-plane-requires
+read-lent-plane-requires c κs = search needs
+
+outcome-answer-requires : tie.Need-outcome-answer-requires
+outcome-answer-requires c κs = search needs
+
+same-length : tie.Need-same-length
+same-length c = search needs
+
+same-length-2 : tie.Need-same-length-2
+same-length-2 c = search needs
+
+same-length-3 : tie.Need-same-length-3
+same-length-3 c = search needs
+
+same-length-4 : tie.Need-same-length-4
+same-length-4 c = search needs
+
+same-length-5 : tie.Need-same-length-5
+same-length-5 c = search needs
+
+same-length-6 : tie.Need-same-length-6
+same-length-6 c = search needs
+
+returns : tie.Need-returns
+returns c = end-told _ _ (c .outcome-answer .result) (c .before .before .before .before .before .before .before .before .before .before .before .before .before .read-lent-plane .ensures) (c .outcome-answer .ensures)
+
+pub fezandimo-read-lent-plane-spec : {M : Type 1} → statement M
+fezandimo-read-lent-plane-spec =
+    tie.close
+    (tie.spec
+    read-lent-plane-requires
+    outcome-answer-requires
+    same-length
+    same-length-2
+    same-length-3
+    same-length-4
+    same-length-5
+    same-length-6
+    returns)

@@ -1,0 +1,62 @@
+-- `exports::fezandimo_read_sheet` meets its contract.
+use Rattle.exports.proofs.AnswerLaws.{end-told}
+use borrow.Author.Needs.{needs}
+use Rattle.exports.proofs.fezandimo_read_sheet.Statement.{statement}
+use Rattle.exports.proofs.fezandimo_read_sheet.Tie as tie
+
+read-sheet-requires : tie.Need-read-sheet-requires
+read-sheet-requires c κs = search needs
+
+outcome-answer-requires : tie.Need-outcome-answer-requires
+outcome-answer-requires c κs = search needs
+
+same-length : tie.Need-same-length
+same-length c = search needs
+
+same-length-2 : tie.Need-same-length-2
+same-length-2 c = search needs
+
+same-length-3 : tie.Need-same-length-3
+same-length-3 c = search needs
+
+same-length-4 : tie.Need-same-length-4
+same-length-4 c = search needs
+
+same-length-5 : tie.Need-same-length-5
+same-length-5 c = search needs
+
+same-length-6 : tie.Need-same-length-6
+same-length-6 c = search needs
+
+same-length-7 : tie.Need-same-length-7
+same-length-7 c = search needs
+
+same-length-8 : tie.Need-same-length-8
+same-length-8 c = search needs
+
+same-length-9 : tie.Need-same-length-9
+same-length-9 c = search needs
+
+same-length-10 : tie.Need-same-length-10
+same-length-10 c = search needs
+
+returns : tie.Need-returns
+returns c = end-told _ _ (c .outcome-answer .result) (c .before .before .before .before .before .before .before .before .before .before .before .before .before .before .before .before .before .before .before .before .before .read-sheet .ensures) (c .outcome-answer .ensures)
+
+pub fezandimo-read-sheet-spec : {M : Type 1} → statement M
+fezandimo-read-sheet-spec =
+    tie.close
+    (tie.spec
+    read-sheet-requires
+    outcome-answer-requires
+    same-length
+    same-length-2
+    same-length-3
+    same-length-4
+    same-length-5
+    same-length-6
+    same-length-7
+    same-length-8
+    same-length-9
+    same-length-10
+    returns)

@@ -1,0 +1,17 @@
+-- `exports::refusal_answer` meets its contract.
+use borrow.Author.Needs.{needs}
+use Rattle.exports.proofs.refusal_answer.Statement.{statement}
+use Rattle.exports.proofs.refusal_answer.Tie as tie
+
+refusal-numbers-requires : tie.Need-refusal-numbers-requires
+refusal-numbers-requires c κs = search needs
+
+returns : tie.Need-returns
+returns c = rw (c .refusal-numbers .ensures)
+
+pub refusal-answer-spec : {M : Type 1} → statement M
+refusal-answer-spec =
+    tie.close
+    (tie.spec
+    refusal-numbers-requires
+    returns)
