@@ -41,7 +41,7 @@ impl Desk {
     fn of<I: Input>(run: Run) -> Self {
         Self {
             noise: Noise::new(run.seed),
-            works: Works::new(I::NUMBERS, I::BYTES),
+            works: Works::new(I::SIZES, I::NUMBERS),
             out: Out::default(),
         }
     }
@@ -92,9 +92,8 @@ fn compared<I: Input>(
         Outcome::Record(bytes) => Some(bytes.len()),
         Outcome::Refused(..) => None,
     };
-    let constants = [I::NUMBERS, I::BYTES].concat();
-    for room in rooms(random, &constants, record) {
-        let outcome = room.outcome(&rust.outcome, &constants);
+    for room in rooms(random, I::SIZES, record) {
+        let outcome = room.outcome(&rust.outcome, I::SIZES);
         desk.call(input, &room, &outcome)?;
         let is_short = outcome != rust.outcome;
         counts.add(&if is_short { Answer::from(outcome).name() } else { rust.name() });

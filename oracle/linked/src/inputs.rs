@@ -1,9 +1,6 @@
 //! What is compared: sheets and lent planes.
 
-use crate::port::{
-    self, Lists, PLANE_BYTES, PLANE_NUMBERS, SHEET_BYTES, SHEET_NUMBERS, read_lent_plane,
-    read_sheet,
-};
+use crate::port::{self, LENT_SIZES, Lists, SHEET_SIZES, read_lent_plane, read_sheet};
 use crate::slices::{Out, Works};
 use judge::generate::line;
 use judge::lent::Lent;
@@ -13,9 +10,9 @@ use judge::upright::upright_of;
 
 /// An input of one of the two entries that give a record.
 pub trait Input {
-    /// The constants of the work slices: those of numbers, then those of bytes.
-    const NUMBERS: &'static [usize];
-    const BYTES: &'static [usize];
+    /// The least elements of the work slices, and how many of these, the first, are slices of numbers; the others are of bytes.
+    const SIZES: &'static [usize];
+    const NUMBERS: usize;
 
     /// What the Rust answers, where no slice is too short.
     fn rust(&self) -> Judged<Answer>;
@@ -30,8 +27,8 @@ pub trait Input {
 pub struct Sheet(pub Vec<u8>);
 
 impl Input for Sheet {
-    const NUMBERS: &'static [usize] = &SHEET_NUMBERS;
-    const BYTES: &'static [usize] = &SHEET_BYTES;
+    const SIZES: &'static [usize] = &SHEET_SIZES;
+    const NUMBERS: usize = 7;
 
     fn rust(&self) -> Judged<Answer> {
         sheet_answer(&self.0)
@@ -77,8 +74,8 @@ fn narrow<N: TryFrom<u64>>(numbers: &[u64]) -> Option<Vec<N>> {
 }
 
 impl Input for Plane {
-    const NUMBERS: &'static [usize] = &PLANE_NUMBERS;
-    const BYTES: &'static [usize] = &PLANE_BYTES;
+    const SIZES: &'static [usize] = &LENT_SIZES;
+    const NUMBERS: usize = 4;
 
     fn rust(&self) -> Judged<Answer> {
         plane_answer(&self.lent, &upright_of(&self.lent))

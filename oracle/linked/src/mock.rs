@@ -1,6 +1,6 @@
 //! A port for the tests: the judge's own answers, as the port gives them, with a fault or without.
 
-use crate::port::{Answer, PLANE_BYTES, PLANE_NUMBERS, SHEET_BYTES, SHEET_NUMBERS, SplitAnswer};
+use crate::port::{Answer, LENT_SIZES, SHEET_SIZES, SplitAnswer};
 use judge::lent::Lent;
 use judge::outcome::{Outcome, Told};
 use judge::split::{Split, split_of};
@@ -31,12 +31,12 @@ pub enum Wrong {
     PastOut,
     /// The output slice is changed in a refusal with such a number.
     Touched(u64),
-    /// The last element of a work slice is not cleared, or all behind its constant are not.
+    /// The last element of a work slice is not cleared, or all behind its size are not.
     NotCleared(usize),
     NotClearedBehind(usize),
     /// A work slice is written behind its end.
     PastWork(usize),
-    /// A work slice of exactly its constant is short.
+    /// A work slice of exactly its size is short.
     ShortEarly,
     /// Of several short slices the last is told.
     ShortLast,
@@ -80,7 +80,7 @@ unsafe fn list<'a, T>(elements: *const T, count: usize) -> &'a [T] {
     unsafe { from_raw_parts(elements, count) }
 }
 
-unsafe fn wide<N: Copy + Into<u64>>(numbers: *const N, count: usize) -> Vec<u64> {
+unsafe fn wide<N: Copy + Into<u64>>((numbers, count): (*const N, usize)) -> Vec<u64> {
     unsafe { list(numbers, count) }.iter().map(|number| (*number).into()).collect()
 }
 
@@ -92,11 +92,11 @@ impl<T: Copy + Default> Slice<'_, T> {
         Self(unsafe { from_raw_parts_mut(elements, count) })
     }
 
-    /// Clears a work slice; whether it is the one that the mock does wrong.
-    fn clear(&mut self, index: usize, constant: usize) {
+    /// Clears the work slice with a number and a size.
+    fn clear(&mut self, index: usize, size: usize) {
         let count = match WRONG.get() {
             Wrong::NotCleared(wrong) if wrong == index => self.0.len() - 1,
-            Wrong::NotClearedBehind(wrong) if wrong == index => constant,
+            Wrong::NotClearedBehind(wrong) if wrong == index => size,
             _ => self.0.len(),
         };
         self.0[..count].fill(T::default());
@@ -115,7 +115,7 @@ impl<T: Copy + Default> Slice<'_, T> {
 struct Call<'a> {
     numbers: Vec<Slice<'a, u32>>,
     bytes: Vec<Slice<'a, u8>>,
-    constants: Vec<usize>,
+    sizes: &'static [usize],
     out: Slice<'a, u8>,
 }
 
@@ -126,18 +126,18 @@ impl Call<'_> {
         let lengths = numbers.chain(self.bytes.iter().map(|slice| slice.0.len()));
         let early = usize::from(is(Wrong::ShortEarly));
         let mut short =
-            lengths.enumerate().filter(|(index, lent)| *lent < self.constants[*index] + early);
+            lengths.enumerate().filter(|(index, lent)| *lent < self.sizes[*index] + early);
         let found = if is(Wrong::ShortLast) { short.last() } else { short.next() };
         found.map(|(index, _)| index).filter(|_| !is(Wrong::ShortNever))
     }
 
     fn clear(&mut self) {
         for (index, slice) in self.numbers.iter_mut().enumerate() {
-            slice.clear(index, self.constants[index]);
+            slice.clear(index, self.sizes[index]);
         }
         for (index, slice) in self.bytes.iter_mut().enumerate() {
             let index = self.numbers.len() + index;
-            slice.clear(index, self.constants[index]);
+            slice.clear(index, self.sizes[index]);
         }
     }
 
@@ -148,7 +148,7 @@ impl Call<'_> {
             if is(Wrong::ShortCleared) {
                 self.clear();
             }
-            return self.refused(28, slice as u64, self.constants[slice] as u64);
+            return self.refused(28, slice as u64, self.sizes[slice] as u64);
         }
         self.clear();
         let room = self.out.0.len();
@@ -231,8 +231,7 @@ unsafe extern "C" fn fezandimo_read_sheet(
         (plane, plane_count),
     ];
     let bytes = [(bytes, byte_count), (scratch, scratch_count)];
-    let constants = [&SHEET_NUMBERS[..], &SHEET_BYTES].concat();
-    let call = unsafe { call(&numbers, &bytes, constants, (out, out_count)) };
+    let call = unsafe { call(&numbers, &bytes, &SHEET_SIZES, (out, out_count)) };
     let sheet = unsafe { list(sheet, sheet_count) };
     call.end(sheet_answer(sheet).expect("the judge agrees with the Rust").outcome)
 }
@@ -240,14 +239,14 @@ unsafe extern "C" fn fezandimo_read_sheet(
 unsafe fn call<'a>(
     numbers: &[(*mut u32, usize)],
     bytes: &[(*mut u8, usize)],
-    constants: Vec<usize>,
+    sizes: &'static [usize],
     out: (*mut u8, usize),
 ) -> Call<'a> {
     unsafe {
         Call {
             numbers: numbers.iter().map(|(slice, count)| Slice::of(*slice, *count)).collect(),
             bytes: bytes.iter().map(|(slice, count)| Slice::of(*slice, *count)).collect(),
-            constants,
+            sizes,
             out: Slice::of(out.0, out.1),
         }
     }
@@ -280,22 +279,34 @@ unsafe extern "C" fn fezandimo_read_lent_plane(
     out: *mut u8,
     out_count: usize,
 ) -> Answer {
-    let lent = unsafe {
-        Lent {
-            row_lengths: wide(rows, row_count),
-            kinds: wide(kinds, kind_count),
-            regions: wide(regions, region_count),
-            offsets: wide(offsets, offset_count),
-            lengths: wide(sizes, size_count),
-            bytes: list(bytes, byte_count).to_vec(),
-        }
-    };
+    let texts = [(offsets, offset_count), (sizes, size_count)];
+    let numbers = [(rows, row_count), (regions, region_count)];
+    let bytes = [(kinds, kind_count), (bytes, byte_count)];
+    let lent = unsafe { lent_of(numbers, texts, bytes) };
     let numbers =
         [(plane, plane_count), (spans, span_count), (upright, upright_count), (slots, slot_count)];
-    let constants = [&PLANE_NUMBERS[..], &PLANE_BYTES].concat();
-    let call = unsafe { call(&numbers, &[(scratch, scratch_count)], constants, (out, out_count)) };
+    let scratch = [(scratch, scratch_count)];
+    let call = unsafe { call(&numbers, &scratch, &LENT_SIZES, (out, out_count)) };
     let answer = plane_answer(&lent, &upright_of(&lent));
     call.end(answer.expect("the judge agrees with the Rust").outcome)
+}
+
+/// The plane of the caller's lists: rows and regions, offsets and lengths, kinds and bytes.
+unsafe fn lent_of(
+    [rows, regions]: [(*const u32, usize); 2],
+    [offsets, lengths]: [(*const u32, usize); 2],
+    [kinds, bytes]: [(*const u8, usize); 2],
+) -> Lent {
+    unsafe {
+        Lent {
+            row_lengths: wide(rows),
+            kinds: wide(kinds),
+            regions: wide(regions),
+            offsets: wide(offsets),
+            lengths: wide(lengths),
+            bytes: list(bytes.0, bytes.1).to_vec(),
+        }
+    }
 }
 
 fn split_refusal(n: u64, a: usize) -> SplitAnswer {

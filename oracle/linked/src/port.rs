@@ -89,9 +89,9 @@ unsafe extern "C" {
     ) -> SplitAnswer;
 }
 
-/// The elements of the whole reader's work slices: text, thins, bodies, grid, rects, spans and plane; bytes and scratch.
-pub const SHEET_NUMBERS: [usize; 7] = [15_360, 15_360, 15_360, 15_360, 4_096, 2_048, 4_160];
-pub const SHEET_BYTES: [usize; 2] = [61_444, 61_440];
+/// The least elements of the whole reader's work slices: text, thins, bodies, grid, rects, spans, plane, bytes and scratch.
+pub const SHEET_SIZES: [usize; 9] =
+    [15_360, 15_360, 15_360, 15_360, 4_096, 2_048, 4_160, 61_444, 61_440];
 
 /// The whole reader.
 pub fn read_sheet(sheet: &[u8], works: &mut Works, out: &mut Out) -> Answer {
@@ -136,9 +136,8 @@ pub struct Lists<'a> {
     pub bytes: &'a [u8],
 }
 
-/// The elements of the work slices for a lent plane: plane, spans, upright and slots; scratch.
-pub const PLANE_NUMBERS: [usize; 4] = [4_160, 2_048, 4_160, 12_480];
-pub const PLANE_BYTES: [usize; 1] = [61_440];
+/// The least elements of the work slices for a lent plane: plane, spans, upright, slots and scratch.
+pub const LENT_SIZES: [usize; 5] = [4_160, 2_048, 4_160, 12_480, 61_440];
 
 /// The table of a lent plane.
 pub fn read_lent_plane(lent: &Lists, works: &mut Works, out: &mut Out) -> Answer {

@@ -21,10 +21,10 @@ impl fmt::Display for Room {
 
 impl Room {
     /// The answer where that is what an input comes to: 28 before all else, 27 behind all else.
-    pub fn outcome(&self, answer: &Outcome, constants: &[usize]) -> Outcome {
-        let short = self.works.iter().zip(constants).position(|(lent, constant)| lent < constant);
+    pub fn outcome(&self, answer: &Outcome, sizes: &[usize]) -> Outcome {
+        let short = self.works.iter().zip(sizes).position(|(lent, size)| lent < size);
         match short {
-            Some(slice) => refused(28, slice.into(), constants[slice].into()),
+            Some(slice) => refused(28, slice.into(), sizes[slice].into()),
             None => answer.clone().within(self.out),
         }
     }
@@ -32,24 +32,24 @@ impl Room {
 
 /// The rooms for an input that has a record of so many bytes, or none: always one that has room for its answer; now and then
 /// one that is too short for the record, and one with short work slices.
-pub fn rooms(random: &mut Random, constants: &[usize], record: Option<usize>) -> Vec<Room> {
-    let mut rooms = vec![Room { works: works(random, constants), out: enough(random, record) }];
+pub fn rooms(random: &mut Random, sizes: &[usize], record: Option<usize>) -> Vec<Room> {
+    let mut rooms = vec![Room { works: works(random, sizes), out: enough(random, record) }];
     if let Some(bytes) = record
         && random.once_in(8)
     {
-        rooms.push(Room { works: works(random, constants), out: too_few(random, bytes) });
+        rooms.push(Room { works: works(random, sizes), out: too_few(random, bytes) });
     }
     if random.once_in(16) {
-        let works = works(random, constants);
-        let works = shortened(random, works, constants);
+        let works = works(random, sizes);
+        let works = shortened(random, works, sizes);
         rooms.push(Room { works, out: enough(random, record) });
     }
     rooms
 }
 
-/// Work slices that are as long as their constants or, now and then, some of them longer.
-fn works(random: &mut Random, constants: &[usize]) -> Vec<usize> {
-    let mut works = constants.to_vec();
+/// Work slices that are as long as they must be or, now and then, some of them longer.
+fn works(random: &mut Random, sizes: &[usize]) -> Vec<usize> {
+    let mut works = sizes.to_vec();
     if random.once_in(8) {
         for count in &mut works {
             *count += random.pick(&[0, 1, LONGER]);
@@ -59,11 +59,11 @@ fn works(random: &mut Random, constants: &[usize]) -> Vec<usize> {
 }
 
 /// One slice is an element short or, now and then, more, or another one too.
-fn shortened(random: &mut Random, mut works: Vec<usize>, constants: &[usize]) -> Vec<usize> {
+fn shortened(random: &mut Random, mut works: Vec<usize>, sizes: &[usize]) -> Vec<usize> {
     for _ in 0..random.pick(&[1, 1, 1, 2]) {
         let slice = random.below(works.len());
-        let constant = constants[slice];
-        works[slice] = if random.chance(75) { constant - 1 } else { random.below(constant) };
+        let size = sizes[slice];
+        works[slice] = if random.chance(75) { size - 1 } else { random.below(size) };
     }
     works
 }

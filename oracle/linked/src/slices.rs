@@ -2,7 +2,7 @@
 
 use crate::noise::{Element, Noise};
 
-/// Elements that a work slice may be longer than its constant.
+/// Elements that a work slice may be longer than it must be.
 pub const LONGER: usize = 300;
 /// Elements behind the lent ones: the port must not reach them.
 const BEHIND: usize = 16;
@@ -18,8 +18,8 @@ struct Slice<T> {
 }
 
 impl<T: Element> Slice<T> {
-    fn new(constant: usize) -> Self {
-        let elements = vec![T::default(); constant + LONGER + BEHIND];
+    fn new(size: usize) -> Self {
+        let elements = vec![T::default(); size + LONGER + BEHIND];
         Self { elements, lent: 0, filling: 0 }
     }
 
@@ -65,11 +65,12 @@ pub struct Works {
 }
 
 impl Works {
-    /// Slices with room for these constants.
-    pub fn new(numbers: &[usize], bytes: &[usize]) -> Self {
+    /// Slices of these sizes and more, so many of them of numbers.
+    pub fn new(sizes: &[usize], numbers: usize) -> Self {
+        let (numbers, bytes) = sizes.split_at(numbers);
         Self {
-            numbers: numbers.iter().map(|constant| Slice::new(*constant)).collect(),
-            bytes: bytes.iter().map(|constant| Slice::new(*constant)).collect(),
+            numbers: numbers.iter().map(|size| Slice::new(*size)).collect(),
+            bytes: bytes.iter().map(|size| Slice::new(*size)).collect(),
         }
     }
 
