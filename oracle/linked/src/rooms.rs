@@ -20,7 +20,7 @@ impl fmt::Display for Room {
 }
 
 impl Room {
-    /// The answer where that is what an input comes to: 28 before all else, 27 behind all else.
+    /// What an input with such an answer comes to in this room: 28 before all else, 27 behind all else.
     pub fn outcome(&self, answer: &Outcome, sizes: &[usize]) -> Outcome {
         let short = self.works.iter().zip(sizes).position(|(lent, size)| lent < size);
         match short {
