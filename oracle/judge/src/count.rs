@@ -20,6 +20,13 @@ impl Counts {
         }
     }
 
+    /// Adds other counts.
+    pub fn add_all(&mut self, other: Counts) {
+        for (outcome, count) in other.0 {
+            *self.0.entry(outcome).or_default() += count;
+        }
+    }
+
     /// The count of an outcome.
     pub fn of(&self, name: &str) -> usize {
         self.0.iter().find(|((_, known), _)| known == name).map_or(0, |(_, count)| *count)

@@ -14,7 +14,7 @@ use std::process::ExitCode;
 
 const USAGE: &str = "judge sheet|sheets|planes [--record-bytes N] < FILE
 judge layers|answers|stages|causes|count < FILE
-judge generate --seed S --count N [--first K] [--kind sheets|damaged|planes|splits|short-splits|short-bytes|long-splits|drawings|damaged-drawings|lent-lines|hand-lines|clause-planes]";
+judge generate --seed S --count N [--first K] [--kind sheets|damaged|planes|splits|short-splits|short-bytes|long-splits|drawings|damaged-drawings|lent-lines|hand-lines|clause-planes|in-prose]";
 
 /// The options of all modes.
 struct Options {

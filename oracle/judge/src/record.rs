@@ -89,35 +89,9 @@ pub fn encode(table: &DecisionTable) -> Vec<u8> {
     bytes
 }
 
-/// A table as its record has it.
-#[derive(Debug, Default, Clone, PartialEq, Eq)]
-pub struct Table {
-    pub policy: usize,
-    pub orientation: usize,
-    pub inputs: usize,
-    pub outputs: usize,
-    pub annotations: usize,
-    pub rules: usize,
-    /// The texts of the slots.
-    pub texts: Vec<Option<String>>,
-}
-
-impl Table {
-    /// The table of a record.
-    pub fn of_record(record: &[u8]) -> Self {
-        let text = |(offset, length)| {
-            String::from_utf8(record[offset..offset + length].to_vec()).expect("a text of the Rust")
-        };
-        let [policy, orientation, inputs, outputs, annotations, rules] =
-            [1, 2, 3, 4, 5, 6].map(|index| word(record, index));
-        let texts = (0..word(record, 8)).map(|slot| place(record, slot).map(text)).collect();
-        Self { policy, orientation, inputs, outputs, annotations, rules, texts }
-    }
-
-    /// The bytes of all texts together.
-    pub fn bytes(&self) -> usize {
-        self.texts.iter().flatten().map(String::len).sum()
-    }
+/// Whether a record is that of a row sheet.
+pub fn is_by_rows(record: &[u8]) -> bool {
+    word(record, 2) == 0
 }
 
 /// The word at an index of a record.

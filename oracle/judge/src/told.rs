@@ -3,38 +3,35 @@
 use crate::canvas;
 use crate::clauses::refusal_of;
 use crate::lent::{Lent, judge_plane};
-use crate::outcome::{Fault, Judged, Outcome, Told, agree, run};
-use crate::record::Table;
+use crate::outcome::{Judged, Outcome, Told, agree, run};
+use crate::record::is_by_rows;
 use crate::sheet::{judge_sheet, rows_of};
 use crate::upright::{Upright, upright_of};
 use recognizer::canvas::Canvas;
 
-/// A table or a refusal, with the condition of a 10 of the clause rules.
+/// A record or a refusal, with the condition of a 10 of the clause rules.
 #[derive(Debug, Clone, PartialEq, Eq)]
 pub struct Answer {
-    pub table: Result<Table, Outcome>,
+    pub outcome: Outcome,
     pub condition: Option<&'static str>,
 }
 
 impl Answer {
-    fn of(outcome: Outcome, condition: Option<&'static str>) -> Self {
-        let table = match outcome {
-            Outcome::Record(bytes) => Ok(Table::of_record(&bytes)),
-            refused => Err(refused),
-        };
-        Answer { table, condition }
-    }
-
     /// What is counted: the number, with the check of 25 and the condition of 10.
     pub fn name(&self) -> String {
-        match (&self.table, self.condition) {
-            (Ok(table), _) if table.orientation == 0 => "record rows".to_string(),
-            (Ok(_), _) => "record columns".to_string(),
-            (Err(Outcome::Refused(25, check, _)), _) => format!("refused 25 {check}"),
-            (Err(Outcome::Refused(number, _, _)), Some(name)) => format!("refused {number} {name}"),
-            (Err(Outcome::Refused(number, _, _)), None) => format!("refused {number}"),
-            (Err(Outcome::Record(_)), _) => unreachable!("a record is a table"),
+        match (&self.outcome, self.condition) {
+            (Outcome::Record(bytes), _) if is_by_rows(bytes) => "record rows".to_string(),
+            (Outcome::Record(_), _) => "record columns".to_string(),
+            (Outcome::Refused(25, check, _), _) => format!("refused 25 {check}"),
+            (Outcome::Refused(number, _, _), Some(name)) => format!("refused {number} {name}"),
+            (Outcome::Refused(number, _, _), None) => format!("refused {number}"),
         }
+    }
+}
+
+impl From<Outcome> for Answer {
+    fn from(outcome: Outcome) -> Self {
+        Answer { outcome, condition: None }
     }
 }
 
@@ -54,7 +51,7 @@ fn is_told(rust: &Outcome, read: &Outcome) -> bool {
 pub fn plane_answer(lent: &Lent, upright: &Result<Upright, Outcome>) -> Judged<Answer> {
     let differs = || format!("the reading of the clauses differs on:\n{}", lent.line());
     match upright {
-        Err(refused) => Ok(Answer::of(refused.clone(), None)),
+        Err(refused) => Ok(refused.clone().into()),
         Ok(sheet) => told(judge_plane(lent, usize::MAX), sheet, differs),
     }
 }
@@ -64,11 +61,11 @@ fn told(outcome: Outcome, sheet: &Upright, differs: impl FnOnce() -> String) -> 
     match refusal_of(sheet) {
         Some(read) => {
             agree(is_told(&outcome, &read.outcome), differs)?;
-            Ok(Answer::of(read.outcome, read.condition))
+            Ok(Answer { outcome: read.outcome, condition: read.condition })
         }
         None => {
             agree(matches!(outcome, Outcome::Record(_)), differs)?;
-            Ok(Answer::of(outcome, None))
+            Ok(outcome.into())
         }
     }
 }
@@ -103,12 +100,10 @@ pub fn sheet_answer(bytes: &[u8]) -> Judged<Answer> {
         Outcome::Refused(8.., _, _) => lent_of(bytes),
         _ => None,
     };
-    let Some(lent) = lent else { return Ok(Answer::of(outcome, None)) };
+    let Some(lent) = lent else { return Ok(outcome.into()) };
     let answer = plane_answer(&lent, &upright_of(&lent))?;
-    match &answer.table {
-        Err(read) if is_told(&outcome, read) => Ok(answer),
-        _ => {
-            Err(Fault(format!("the plane is answered otherwise than its sheet:\n{}", lent.line())))
-        }
-    }
+    agree(is_told(&outcome, &answer.outcome), || {
+        format!("the plane is answered otherwise than its sheet:\n{}", lent.line())
+    })?;
+    Ok(answer)
 }

@@ -5,7 +5,6 @@ use judge::generate::hand_planes::lent;
 use judge::generate::{clause_plane, lent_plane, sheet_bytes};
 use judge::lent::{Lent, judge_plane};
 use judge::outcome::{Outcome, silence_the_rust};
-use judge::record::Table;
 use judge::sheet::judge_sheet;
 use judge::told::{Answer, plane_answer, sheet_answer};
 use judge::upright::upright_of;
@@ -18,10 +17,10 @@ fn answer(lent: &Lent) -> Answer {
 /// The numbers of a plane's answer; for a 10, its condition.
 fn told(rows: &[&str]) -> String {
     let answer = answer(&lent(rows));
-    match (&answer.table, answer.condition) {
-        (Err(_), Some(_)) => answer.name(),
-        (Err(Outcome::Refused(number, a, b)), None) => format!("refused {number} {a} {b}"),
-        _ => "record".to_string(),
+    match (&answer.outcome, answer.condition) {
+        (Outcome::Refused(..), Some(_)) => answer.name(),
+        (Outcome::Refused(number, a, b), None) => format!("refused {number} {a} {b}"),
+        (Outcome::Record(_), _) => "record".to_string(),
     }
 }
 
@@ -98,7 +97,7 @@ fn refusals_before_the_clause_rules() {
     }
 }
 
-/// The tables of sheets are those of their records, and a refused sheet's numbers are all told.
+/// The records of sheets are the Rust's, and a refused sheet's numbers are all told.
 #[test]
 fn answers_to_sheets() {
     silence_the_rust();
@@ -106,29 +105,37 @@ fn answers_to_sheets() {
         let sheet = sheet_bytes(case % 2 == 1, 1, case);
         let outcome = judge_sheet(&sheet, usize::MAX).expect("the judge agrees with the Rust");
         let answer = sheet_answer(&sheet).expect("the judge agrees with the Rust");
-        match outcome {
-            Outcome::Record(bytes) => assert_eq!(answer.table, Ok(Table::of_record(&bytes))),
-            Outcome::Refused(number, _, _) => {
-                let Err(refused) = answer.table else { panic!("case {case} is refused") };
-                let printed = String::from_utf8(refused.print()).expect("a text");
-                assert!(printed.starts_with(&format!("refused {number} ")), "{printed}");
-                assert!(!printed.contains('?'), "{printed}");
-            }
-        }
+        let Outcome::Refused(number, _, _) = outcome else {
+            assert_eq!(answer.outcome, outcome);
+            continue;
+        };
+        let printed = String::from_utf8(answer.outcome.print()).expect("a text");
+        assert!(printed.starts_with(&format!("refused {number} ")), "{printed}");
+        assert!(!printed.contains('?'), "{printed}");
     }
 }
 
 #[test]
-fn tables_of_records() {
+fn records_of_planes() {
     let lent = lent(&["C# a ║ b c", "C# p ║ q *r*,s", "═ ═ ╬ ═ ═", "1 · ║ y z"]);
-    let Ok(table) = answer(&lent).table else { panic!("a record") };
-    let numbers = [table.policy, table.orientation, table.inputs, table.outputs];
-    assert_eq!((numbers, table.annotations, table.rules), ([8, 0, 1, 2], 0, 1));
-    let text = |text: &str| Some(text.to_string());
-    let inputs = [text("a"), text("p")];
-    let outputs = [text("b"), text("q"), None, text("c"), text("r,s"), text("r")];
-    let entries = [text(""), text("y"), text("z")];
-    let expected = [&[None, None], inputs.as_slice(), &outputs, &entries].concat();
-    assert_eq!(table.texts, expected);
-    assert_eq!(table.bytes(), 11);
+    let printed = String::from_utf8(answer(&lent).outcome.print()).expect("a text");
+    let numbers =
+        "bytes 155\npolicy 8\norientation 0\ninputs 1\noutputs 2\nannotations 0\nrules 1\n";
+    let texts = [
+        "0 absent",
+        "1 absent",
+        "2 144 1 a",
+        "3 145 1 p",
+        "4 146 1 b",
+        "5 147 1 q",
+        "6 absent",
+        "7 148 1 c",
+        "8 149 3 r,s",
+        "9 152 1 r",
+        "10 153 0 ",
+        "11 153 1 y",
+        "12 154 1 z",
+    ];
+    let slots: String = texts.iter().map(|slot| format!("slot {slot}\n")).collect();
+    assert_eq!(printed, format!("{numbers}{slots}"));
 }

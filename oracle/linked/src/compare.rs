@@ -1,110 +1,133 @@
-//! Compares the port with the Rust, and counts the answers.
+//! Compares the records and refusals of the port with the Rust's, and counts the answers.
 
-use crate::port::{Narrow, Stated, Work};
+use crate::inputs::Input;
+use crate::noise::Noise;
+use crate::port;
+use crate::rooms::{Room, rooms};
+use crate::slices::{Out, Works};
+use crate::workers::Run;
 use judge::count::Counts;
-use judge::generate::line;
-use judge::lent::Lent;
-use judge::outcome::Fault;
-use judge::record::Table;
-use judge::told::{Answer, plane_answer, sheet_answer};
-use judge::upright::upright_of;
-use std::fmt::Debug;
+use judge::generate::random::Random;
+use judge::outcome::{Fault, Outcome, Told};
+use judge::told::Answer;
+use std::sync::atomic::{AtomicU64, Ordering::Relaxed};
 
 /// Names that show in the counts even where there are none.
 const RECORDS: [&str; 2] = ["record rows", "record columns"];
 const DETAILS: [&str; 5] =
     ["refused 10 P7", "refused 10 P8", "refused 10 P9", "refused 25 8", "refused 25 12"];
 
-/// Counts that show records and the refusals from one number to another.
-fn counts(first: u32, last: u32) -> Counts {
-    let numbers = (first..=last).filter(|number| *number != 25);
-    let numbers = numbers.map(|number| format!("refused {number}"));
+/// Counts that show records and these refusals.
+pub fn showing(numbers: impl Iterator<Item = u32>) -> Counts {
+    let numbers = numbers.filter(|number| *number != 25).map(|number| format!("refused {number}"));
     let named = RECORDS.iter().chain(&DETAILS).map(|name| name.to_string());
     Counts::showing(&named.chain(numbers).collect::<Vec<String>>())
 }
 
-/// Both answers and what differs in them, where they are not the same.
-fn same<T: PartialEq + Debug>(
-    rust: &T,
-    port: &T,
-    what: impl FnOnce() -> String,
+/// The random numbers of a case's slices: others than those of its input.
+pub fn random_of(run: Run, case: u64) -> Random {
+    const SLICES: u64 = 1_000;
+    Random::of(&[SLICES, run.seed, case])
+}
+
+/// The slices of one thread.
+struct Desk {
+    noise: Noise,
+    works: Works,
+    out: Out,
+}
+
+impl Desk {
+    fn of<I: Input>(run: Run) -> Self {
+        Self {
+            noise: Noise::new(run.seed),
+            works: Works::new(I::SIZES, I::NUMBERS),
+            out: Out::default(),
+        }
+    }
+
+    /// Calls the port with a room; what is wrong with its answer or with a slice.
+    fn call(&mut self, input: &impl Input, room: &Room, rust: &Outcome) -> Result<(), String> {
+        self.works.lend(&room.works, &mut self.noise);
+        self.out.lend(room.out, &mut self.noise);
+        let port = input.port(&mut self.works, &mut self.out);
+        let is_same = port == numbers(rust);
+        let wrong = if is_same { self.wrong(rust) } else { Some("outcomes differ".to_string()) };
+        let Some(wrong) = wrong else { return Ok(()) };
+        let rust = String::from_utf8_lossy(&rust.print()).into_owned();
+        Err(format!("{room}\n{wrong}\nthe Rust: {rust}the port: {port:?}"))
+    }
+
+    /// What is wrong with a slice after the right answer.
+    fn wrong(&self, rust: &Outcome) -> Option<String> {
+        let (record, is_kept) = match rust {
+            Outcome::Record(bytes) => (bytes.as_slice(), false),
+            Outcome::Refused(number, _, _) => (&[][..], *number == 28),
+        };
+        self.out.wrong(record).or_else(|| self.works.wrong(is_kept, &self.noise))
+    }
+}
+
+/// The numbers that the port must answer.
+fn numbers(rust: &Outcome) -> port::Answer {
+    let told = |told: &Told| match told {
+        Told::Number(number) => *number,
+        Told::Unknown => unreachable!("all numbers are told"),
+    };
+    match rust {
+        Outcome::Record(bytes) => port::Answer { n: 0, a: bytes.len() as u64, b: 0 },
+        Outcome::Refused(n, a, b) => port::Answer { n: (*n).into(), a: told(a), b: told(b) },
+    }
+}
+
+/// Compares one input, and counts what its calls come to.
+fn compared<I: Input>(
+    input: &I,
+    random: &mut Random,
+    desk: &mut Desk,
+    counts: &mut Counts,
 ) -> Result<(), String> {
-    if rust == port {
-        return Ok(());
+    let rust = input.rust().map_err(|Fault(what)| what)?;
+    let record = match &rust.outcome {
+        Outcome::Record(bytes) => Some(bytes.len()),
+        Outcome::Refused(..) => None,
+    };
+    for room in rooms(random, I::SIZES, record) {
+        let outcome = room.outcome(&rust.outcome, I::SIZES);
+        desk.call(input, &room, &outcome)?;
+        let is_short = outcome != rust.outcome;
+        counts.add(&if is_short { Answer::from(outcome).name() } else { rust.name() });
     }
-    Err(format!("{} differ\nthe Rust: {rust:?}\nthe port: {port:?}", what()))
+    Ok(())
 }
 
-fn no_answer(what: String) -> String {
-    format!("no answer of the port: {what}")
-}
-
-/// The same of tables or refusals.
-fn same_table(rust: &Answer, port: Stated<Table>) -> Result<(), String> {
-    let port = port.map_err(no_answer)?;
-    same(&rust.table, &port, || match (&rust.table, &port) {
-        (Ok(rust), Ok(port)) => first_difference(rust, port),
-        _ => "outcomes".to_string(),
-    })
-}
-
-/// The first slot that differs, if that is all that does.
-fn first_difference(rust: &Table, port: &Table) -> String {
-    let numbers = |table: &Table| Table { texts: vec![], ..table.clone() };
-    let slot = rust.texts.iter().zip(&port.texts).position(|(rust, port)| rust != port);
-    match slot {
-        _ if numbers(rust) != numbers(port) => "the numbers of the tables".to_string(),
-        Some(slot) => {
-            format!("slots {slot}, {:?} and {:?},", rust.texts[slot], port.texts[slot])
-        }
-        None => "the counts of slots".to_string(),
+/// Compares so many inputs; those that are none are too wide for the slices.
+pub fn inputs<I: Input>(
+    (what, run, count): (&str, Run, u64),
+    mut counts: Counts,
+    made: impl Fn(u64) -> Option<I> + Sync,
+) -> Result<u64, String> {
+    let wide = AtomicU64::new(0);
+    let all = run.each(
+        count,
+        || Desk::of::<I>(run),
+        |case, desk, counts| {
+            let Some(input) = made(case) else {
+                wide.fetch_add(1, Relaxed);
+                return Ok(());
+            };
+            desk.noise.begin(case);
+            compared(&input, &mut random_of(run, case), desk, counts)
+                .map_err(|why| format!("{what}, case {case}:\n{}\n{why}", input.shown()))
+        },
+    )?;
+    counts.add_all(all);
+    let wide = wide.into_inner();
+    let agree = count - wide;
+    println!("{what}: {agree} agree by {} calls", counts.all());
+    if wide > 0 {
+        println!("{wide} are too wide for the slices");
     }
-}
-
-/// Compares one plane; nothing where a number does not fit the slices.
-fn plane(lent: &Lent, work: &mut Work) -> Result<Option<Answer>, String> {
-    let upright = upright_of(lent);
-    let rust = plane_answer(lent, &upright).map_err(|Fault(what)| what)?;
-    let Some(narrow) = Narrow::of(lent) else { return Ok(None) };
-    let port = work.upright(&narrow).map_err(no_answer)?;
-    same(&upright, &port, || "upright sheets".to_string())?;
-    same_table(&rust, work.lent_table(&narrow))?;
-    Ok(Some(rust))
-}
-
-/// Compares lent planes.
-pub fn planes(what: &str, planes: impl Iterator<Item = Lent>) -> Result<u64, String> {
-    let mut work = Work::new(1);
-    let mut counts = counts(8, 26);
-    let mut all = 0;
-    for lent in planes {
-        let rust = plane(&lent, &mut work)
-            .map_err(|why| format!("{what}, behind {all} that agree:\n{}\n{why}", lent.line()))?;
-        if let Some(rust) = rust {
-            counts.add(&rust.name());
-        }
-        all += 1;
-    }
-    let wide = all - counts.all() as u64;
-    println!("{what}: {all} agree, {wide} of them too wide for the slices\n{counts}");
-    Ok(all)
-}
-
-/// Compares sheets.
-#[cfg(any(test, feature = "drawings"))]
-pub fn sheets(what: &str, sheets: impl Iterator<Item = Vec<u8>>) -> Result<u64, String> {
-    let mut work = Work::new(2);
-    let mut counts = counts(1, 24);
-    for sheet in sheets {
-        let rust = sheet_answer(&sheet).map_err(|Fault(what)| what)?;
-        same_table(&rust, work.drawn_table(&sheet)).map_err(|why| {
-            let bytes = line("drawing", &sheet);
-            let shown = [bytes.as_slice(), &sheet].concat();
-            let shown = String::from_utf8_lossy(&shown);
-            format!("{what}, behind {} that agree:\n{shown}\n{why}", counts.all())
-        })?;
-        counts.add(&rust.name());
-    }
-    println!("{what}: all agree\n{counts}");
-    Ok(counts.all() as u64)
+    println!("{counts}");
+    Ok(agree)
 }

@@ -1,4 +1,4 @@
-//! What stands in the work slices before a call.
+//! What stands in the slices before a call.
 
 use judge::generate::random::Random;
 
@@ -6,8 +6,8 @@ use judge::generate::random::Random;
 const POOL: usize = 40_009;
 /// Numbers between the beginnings of two fillings.
 const STEP: usize = 7_919;
-/// The longest filling.
-const LONGEST: usize = 15_361;
+/// The longest filling, in numbers.
+const LONGEST: usize = 16_000;
 
 /// Random numbers, most of them such as the port writes itself; every filling begins elsewhere.
 pub struct Noise {
@@ -29,13 +29,32 @@ impl Noise {
         Self { numbers, bytes, at: 0 }
     }
 
-    pub fn fill(&mut self, slice: &mut [u32]) {
-        self.at = (self.at + STEP) % (POOL - LONGEST);
-        slice.copy_from_slice(&self.numbers[self.at..][..slice.len()]);
+    /// The fillings of a case depend on its number, not on the cases before it.
+    pub fn begin(&mut self, case: u64) {
+        self.at = (case % POOL as u64) as usize * STEP % (POOL - LONGEST);
     }
 
-    pub fn fill_bytes(&mut self, slice: &mut [u8]) {
+    /// Where the next filling begins.
+    pub fn next_place(&mut self) -> usize {
         self.at = (self.at + STEP) % (POOL - LONGEST);
-        slice.copy_from_slice(&self.bytes[4 * self.at..][..slice.len()]);
+        self.at
+    }
+}
+
+/// What a slice holds: numbers or bytes.
+pub trait Element: Copy + Default + PartialEq + std::ops::BitOr<Output = Self> {
+    /// The filling that begins at a place.
+    fn filling(noise: &Noise, place: usize) -> &[Self];
+}
+
+impl Element for u32 {
+    fn filling(noise: &Noise, place: usize) -> &[u32] {
+        &noise.numbers[place..][..LONGEST]
+    }
+}
+
+impl Element for u8 {
+    fn filling(noise: &Noise, place: usize) -> &[u8] {
+        &noise.bytes[4 * place..][..4 * LONGEST]
     }
 }

@@ -36,6 +36,7 @@ pub enum Kind {
     LentLines,
     HandLines,
     ClausePlanes,
+    InProse,
 }
 
 impl Kind {
@@ -54,6 +55,7 @@ impl Kind {
             "lent-lines" => Some(Kind::LentLines),
             "hand-lines" => Some(Kind::HandLines),
             "clause-planes" => Some(Kind::ClausePlanes),
+            "in-prose" => Some(Kind::InProse),
             _ => None,
         }
     }
@@ -75,16 +77,32 @@ pub fn generate(kind: Kind, seed: u64, case: u64) -> Vec<u8> {
         Kind::Sheets => sheet(sheets::good(&mut random)),
         Kind::Damaged => sheet(damage::damaged(&mut random)),
         Kind::Planes => (planes::plane(&mut random).line() + "\n").into_bytes(),
-        Kind::Splits => line("split", &splits::text(&mut random)),
-        Kind::ShortSplits => line("split", &splits::short(case)),
-        Kind::ShortBytes => line("split", &splits::short_bytes(case)),
-        Kind::LongSplits => line("split", &splits::long(&mut random)),
+        Kind::Splits | Kind::ShortSplits | Kind::ShortBytes | Kind::LongSplits => {
+            line("split", &split_text(kind, seed, case))
+        }
         Kind::Drawings => line("drawing", &sheets::good(&mut random)),
         Kind::DamagedDrawings => line("drawing", &damage::damaged(&mut random)),
         Kind::LentLines => lent_line(&planes::narrow(&mut random)),
         Kind::HandLines => hand_line(case as usize),
         Kind::ClausePlanes => (clause_planes::plane(&mut random).line() + "\n").into_bytes(),
+        Kind::InProse => sheet(sheets::in_prose(&mut random)),
     }
+}
+
+/// A text for the value split, as `generate` makes it.
+pub fn split_text(kind: Kind, seed: u64, case: u64) -> Vec<u8> {
+    let mut random = Random::of(&[kind.source() as u64, seed, case]);
+    match kind {
+        Kind::ShortSplits => splits::short(case),
+        Kind::ShortBytes => splits::short_bytes(case),
+        Kind::LongSplits => splits::long(&mut random),
+        _ => splits::text(&mut random),
+    }
+}
+
+/// The bytes of a sheet in much prose, as `generate` makes it.
+pub fn sheet_in_prose(seed: u64, case: u64) -> Vec<u8> {
+    sheets::in_prose(&mut Random::of(&[Kind::InProse.source() as u64, seed, case]))
 }
 
 /// A lent plane, as `generate` makes it.

@@ -5,6 +5,7 @@ use super::draw::Drawing;
 use super::edges;
 use super::random::Random;
 use super::shape::{Flaw, Shape};
+use super::texts;
 use crate::limits::{CANVAS_COLUMNS, CANVAS_ROWS};
 
 /// How often a drawing is made again when it is too large.
@@ -43,4 +44,27 @@ pub fn sheet(random: &mut Random, flaw: Flaw) -> Vec<u8> {
 /// A good sheet; one in a hundred is as large as the limits allow.
 pub fn good(random: &mut Random) -> Vec<u8> {
     if random.once_in(100) { edges::sheet(random, false) } else { sheet(random, Flaw::None) }
+}
+
+/// Lines of prose around a sheet: few, or so many that it has more than 61,440 bytes.
+const LINES_AROUND: [usize; 4] = [3, 30, 300, 6_000];
+
+/// A good sheet in prose; one in ten has ill-formed UTF-8 somewhere before or behind.
+pub fn in_prose(random: &mut Random) -> Vec<u8> {
+    let most = random.pick(&LINES_AROUND);
+    let before = prose(random, most);
+    let behind = prose(random, most);
+    let mut bytes = [before, sheet(random, Flaw::None), b"\n".to_vec(), behind].concat();
+    if random.once_in(10) {
+        let place = random.below(bytes.len() + 1);
+        bytes.insert(place, 0xFF);
+    }
+    bytes
+}
+
+/// At most so many lines of prose.
+fn prose(random: &mut Random, most: usize) -> Vec<u8> {
+    let lines: Vec<String> =
+        (0..random.between(0, most)).map(|_| texts::prose(random) + "\n").collect();
+    lines.concat().into_bytes()
 }
