@@ -1,0 +1,4 @@
+-- Demand 3.
+pub mod Recorded
+pub mod SamePolicySameRecord
+pub mod TurnedColumnSheet

@@ -1,0 +1,11 @@
+-- How a call with a drawing or with a lent plane ends.
+use mathlib.Core.List.{List}
+use Prim.Native.Nat.{ℕ}
+use Rattle.policies.specs.Source.{Source, drawing, plane}
+use Rattle.builder.specs.Ends.{End}
+use Rattle.builder.specs.Entries.{sheetEnd, lentEnd}
+
+-- of the whole reader, or of the table from a lent plane, with whatever slices
+abbrev pub sourceEnd : Source → List (List ℕ) → List ℕ → End
+sourceEnd (drawing s) works out = sheetEnd s works out
+sourceEnd (plane l) works out = lentEnd l works out
