@@ -1,4 +1,5 @@
--- Demand 3.
+-- Demand 3, and the examples of document 01.
 pub mod Recorded
 pub mod SamePolicySameRecord
 pub mod TurnedColumnSheet
+pub mod Examples

@@ -1,1 +1,2 @@
 pub mod SourceEnd
+pub mod Examples
