@@ -8,13 +8,13 @@ use Rattle.lists.specs.Answer.{ok, refused}
 use Rattle.lists.specs.Choose.{choose}
 use Rattle.lists.specs.Zeros.{zeros}
 use Rattle.model.specs.Refusals.{Reading}
-use Rattle.model.specs.declared.Refusal.the-variants.{OutputSliceShort, WorkSliceShort}
+use Rattle.model.specs.declared.Refusal.the-variants.{WorkSliceShort}
 use Rattle.record.specs.Policy.{Policy}
-use Rattle.record.specs.Record.{Table, total}
+use Rattle.record.specs.Record.{Table}
 use Rattle.recognizer.specs.Told.{tableRead}
-use Rattle.writer.specs.SlotRecord.{recordIn}
-use Rattle.builder.specs.declared.Outcome.{Outcome}
-use Rattle.builder.specs.declared.Outcome.the-variants.{Record, Refused}
+use Rattle.records.specs.Outcomes.{outcomeOf, recordOf}
+use Rattle.records.specs.declared.Outcome.{Outcome}
+use Rattle.records.specs.declared.Outcome.the-variants.{Refused}
 use Rattle.builder.specs.declared.WorkSlices.{WorkSlices}
 use Rattle.builder.specs.declared.WorkSlices.the-variants.{Enough, Short}
 
@@ -34,16 +34,6 @@ roomFrom i (n ∷ ns) (k ∷ ks) = choose (ltb n k) (refused (WorkSliceShort i k
 abbrev pub roomIn : WorkSlices → Reading (Unit {0})
 roomIn Enough = ok tt
 roomIn (Short r) = refused r
-
--- the outcome with a record slice of n bytes: 27 is last, and tells the bytes needed
-abbrev pub outcomeOf : Reading Table → ℕ → Outcome
-outcomeOf (ok t) n = choose (ltb n (total t)) (Refused (OutputSliceShort (total t))) (Record (total t))
-outcomeOf (refused r) n = Refused r
-
--- the record slice: the record and behind it what was there, or untouched
-abbrev pub recordOf : Reading Table → List ℕ → List ℕ
-recordOf (ok t) out = recordIn out t
-recordOf (refused r) out = out
 
 -- the end of a call that reads a table: after 28 every slice is unchanged, after anything else the work slices are zero
 abbrev pub endBy : Reading (Unit {0}) → Reading Table → List (List ℕ) → List ℕ → End

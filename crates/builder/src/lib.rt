@@ -1,30 +1,12 @@
 // The public entries: the whole reader, from the bytes of a sheet to its record, and the table from a lent plane.
 use model::Refusal;
-use model::limits::TEXT_BYTES;
-use recognizer::Recognized;
-use recognizer::SlotTable;
-use record::Begun;
-use record::Head;
+use records::Outcome;
 ghost use mathlib.Core.List.{[], _∷_};
 ghost use mathlib.Core.Path.{_≡_};
-ghost use Prim.Native.Nat.{_*_, _≤_};
 ghost use lib.ListN.{length};
 ghost use Rattle.lists.specs.Zeros.{zeros};
-ghost use Rattle.model.specs.Limits.{textBytes};
-ghost use Rattle.record.specs.Slots.{slotLimit};
-ghost use Rattle.recognizer.specs.Told.{tableRead};
-ghost use Rattle.recognizer.specs.declared.Recognized.the-variants.{Stands};
-ghost use Rattle.tables.specs.NamedTable.{namedTable, NamedHeld};
-ghost use Rattle.policies.specs.DrawnPolicy.{walkedPolicy};
-ghost use Rattle.policies.specs.LentPolicy.{lentPolicy};
-ghost use Rattle.builder.specs.Ends.{roomFrom, roomIn, outcomeOf, recordOf, Roomy};
+ghost use Rattle.builder.specs.Ends.{roomFrom, roomIn, Roomy};
 ghost use Rattle.builder.specs.Entries.{sheetSizes, sheetEnd, lentSizes, lentEnd};
-
-// A record of so many bytes, or why there is none.
-pub enum Outcome {
-    Record(usize),
-    Refused(Refusal),
-}
 
 // Whether the work slices have their lengths.
 pub enum WorkSlices {
@@ -49,94 +31,6 @@ fn work_slices(lens: &[usize], sizes: &[usize]) -> WorkSlices
         i += 1;
     }
     WorkSlices::Enough
-}
-
-// The record of a table whose texts stand in slots.
-fn write_table(
-    t: SlotTable,
-    bytes: &[u8],
-    slots: &[u32],
-    scratch: &mut [u8],
-    out: &mut [u8],
-) -> Outcome
-    requires { ⌜ NamedHeld t (now bytes) (now slots) × (3 * slotLimit ≤ length (now slots)) × (textBytes ≤ length (now scratch)) ⌝ }
-    ensures outcome { λ r. ⌜ r ≡ outcomeOf (namedTable (Stands t) (now (bytes .entry)) (now (slots .entry))) (length (now (out .entry))) ⌝ }
-    ensures out { λ _. ⌜ now (out .exit) ≡ recordOf (namedTable (Stands t) (now (bytes .entry)) (now (slots .entry))) (now (out .entry)) ⌝ }
-{
-    let policy = t.policy;
-    let orientation = t.orientation;
-    let head = Head {
-        policy: model::policy_number(policy),
-        orientation: model::orientation_number(orientation),
-        inputs: t.inputs as u32,
-        outputs: t.outputs as u32,
-        annotations: t.annotations as u32,
-        rules: t.rules as u32,
-    };
-    match writer::write_record(bytes, slots, t.slots, t.bytes, head, scratch, out) {
-        Begun::Record(total) => Outcome::Record(total),
-        Begun::NotWritten(r) => Outcome::Refused(r),
-    }
-}
-
-// The record of a drawing. The work slices are left as they come.
-fn sheet_record(
-    s: &[u8],
-    text: &mut [u32],
-    thins: &mut [u32],
-    bodies: &mut [u32],
-    grid: &mut [u32],
-    rects: &mut [u32],
-    spans: &mut [u32],
-    plane: &mut [u32],
-    bytes: &mut [u8],
-    scratch: &mut [u8],
-    out: &mut [u8],
-) -> Outcome
-    requires { ⌜ Roomy (now text ∷ now thins ∷ now bodies ∷ now grid ∷ now rects ∷ now spans ∷ now plane ∷ now bytes ∷ now scratch ∷ []) sheetSizes ⌝ }
-    ensures outcome { λ r. ⌜ r ≡ outcomeOf (tableRead (walkedPolicy (now (s .entry)))) (length (now (out .entry))) ⌝ }
-    ensures out { λ _. ⌜ now (out .exit) ≡ recordOf (tableRead (walkedPolicy (now (s .entry)))) (now (out .entry)) ⌝ }
-{
-    match sources::drawn_table(s, text, thins, bodies, grid, rects, bytes, spans, plane) {
-        Recognized::Stands(t) => write_table(t, &bytes[0..TEXT_BYTES], thins, scratch, out),
-        Recognized::NotRecognized(r) => Outcome::Refused(r),
-    }
-}
-
-// The record of a lent plane. The work slices are left as they come.
-fn lent_record(
-    rows: &[u32],
-    kinds: &[u8],
-    regions: &[u32],
-    offsets: &[u32],
-    sizes: &[u32],
-    bytes: &[u8],
-    plane: &mut [u32],
-    spans: &mut [u32],
-    upright: &mut [u32],
-    slots: &mut [u32],
-    scratch: &mut [u8],
-    out: &mut [u8],
-) -> Outcome
-    requires { ⌜ Roomy (now plane ∷ now spans ∷ now upright ∷ now slots ∷ now scratch ∷ []) lentSizes ⌝ }
-    ensures outcome { λ r. ⌜ r ≡ outcomeOf (tableRead (lentPolicy (record { rows = now (rows .entry); kinds = now (kinds .entry); regions = now (regions .entry); offsets = now (offsets .entry); sizes = now (sizes .entry); bytes = now (bytes .entry) }))) (length (now (out .entry))) ⌝ }
-    ensures out { λ _. ⌜ now (out .exit) ≡ recordOf (tableRead (lentPolicy (record { rows = now (rows .entry); kinds = now (kinds .entry); regions = now (regions .entry); offsets = now (offsets .entry); sizes = now (sizes .entry); bytes = now (bytes .entry) }))) (now (out .entry)) ⌝ }
-{
-    match sources::lent_table(
-        rows,
-        kinds,
-        regions,
-        offsets,
-        sizes,
-        bytes,
-        plane,
-        spans,
-        upright,
-        slots,
-    ) {
-        Recognized::Stands(t) => write_table(t, bytes, slots, scratch, out),
-        Recognized::NotRecognized(r) => Outcome::Refused(r),
-    }
 }
 
 fn clear_two(a: &mut [u8], b: &mut [u8])
@@ -180,7 +74,7 @@ fn sheet_cleared(
     requires { ⌜ Roomy (now text ∷ now thins ∷ now bodies ∷ now grid ∷ now rects ∷ now spans ∷ now plane ∷ now bytes ∷ now scratch ∷ []) sheetSizes ⌝ }
     ensures end { λ r. ⌜ sheetEnd (now (s .entry)) (now (text .entry) ∷ now (thins .entry) ∷ now (bodies .entry) ∷ now (grid .entry) ∷ now (rects .entry) ∷ now (spans .entry) ∷ now (plane .entry) ∷ now (bytes .entry) ∷ now (scratch .entry) ∷ []) (now (out .entry)) ≡ record { outcome = r; works = now (text .exit) ∷ now (thins .exit) ∷ now (bodies .exit) ∷ now (grid .exit) ∷ now (rects .exit) ∷ now (spans .exit) ∷ now (plane .exit) ∷ now (bytes .exit) ∷ now (scratch .exit) ∷ []; out = now (out .exit) } ⌝ }
 {
-    let r = sheet_record(
+    let r = records::sheet_record(
         s,
         text,
         thins,
@@ -263,7 +157,7 @@ fn lent_cleared(
     requires { ⌜ Roomy (now plane ∷ now spans ∷ now upright ∷ now slots ∷ now scratch ∷ []) lentSizes ⌝ }
     ensures end { λ r. ⌜ lentEnd (record { rows = now (rows .entry); kinds = now (kinds .entry); regions = now (regions .entry); offsets = now (offsets .entry); sizes = now (sizes .entry); bytes = now (bytes .entry) }) (now (plane .entry) ∷ now (spans .entry) ∷ now (upright .entry) ∷ now (slots .entry) ∷ now (scratch .entry) ∷ []) (now (out .entry)) ≡ record { outcome = r; works = now (plane .exit) ∷ now (spans .exit) ∷ now (upright .exit) ∷ now (slots .exit) ∷ now (scratch .exit) ∷ []; out = now (out .exit) } ⌝ }
 {
-    let r = lent_record(
+    let r = records::lent_record(
         rows,
         kinds,
         regions,

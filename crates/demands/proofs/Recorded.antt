@@ -16,9 +16,10 @@ use Rattle.model.specs.declared.Refusal.the-variants.{OutputSliceShort}
 use Rattle.record.specs.Policy.{Policy}
 use Rattle.record.specs.Record.{Table, total, encode, tableOf}
 use Rattle.recognizer.specs.Told.{tableRead}
-use Rattle.builder.specs.Ends.{End, roomFrom, outcomeOf, recordOf, endBy, endOf}
-use Rattle.builder.specs.declared.Outcome.{Outcome}
-use Rattle.builder.specs.declared.Outcome.the-variants.{Record, Refused}
+use Rattle.builder.specs.Ends.{End, roomFrom, endBy, endOf}
+use Rattle.records.specs.Outcomes.{outcomeOf, recordOf}
+use Rattle.records.specs.declared.Outcome.{Outcome}
+use Rattle.records.specs.declared.Outcome.the-variants.{Record, Refused}
 use Rattle.policies.specs.DrawnPolicy.{walkedPolicy}
 use Rattle.policies.specs.LentPolicy.{lentPolicy}
 use Rattle.policies.specs.Source.{Source, drawing, plane, statedBy}

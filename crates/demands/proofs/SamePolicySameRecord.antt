@@ -15,7 +15,7 @@ use Rattle.record.specs.Record.{encode, tableOf}
 use Rattle.record.proofs.RecordTellsPolicy.{record-tells-policy}
 use Rattle.policies.specs.Source.{Source, statedBy}
 use Rattle.policies.proofs.StatedFits.{stated-recordable}
-use Rattle.builder.specs.declared.Outcome.the-variants.{Record}
+use Rattle.records.specs.declared.Outcome.the-variants.{Record}
 use Rattle.demands.specs.SourceEnd.{sourceEnd}
 use Rattle.demands.proofs.Recorded.{Recorded, accepted}
 

@@ -29,7 +29,7 @@ use Rattle.policies.proofs.TurnedPolicy.{policyInRows, turned-policy}
 use Rattle.recognizer.specs.Told.{tableRead}
 use Rattle.builder.specs.Ends.{End, roomFrom, endBy, endOf}
 use Rattle.builder.specs.Entries.{lentSizes, lentEnd}
-use Rattle.builder.specs.declared.Outcome.the-variants.{Record, Refused}
+use Rattle.records.specs.declared.Outcome.the-variants.{Record, Refused}
 use Rattle.demands.proofs.Recorded.{recorded}
 use Rattle.demands.proofs.SamePolicySameRecord.{told-apart}
 

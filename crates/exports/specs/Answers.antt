@@ -8,8 +8,8 @@ use Rattle.model.specs.declared.Refusal.{Refusal}
 use Rattle.utils.specs.Split.{splitOf, scratchOf, answered, Places}
 use Rattle.utils.specs.declared.Split.{Split}
 use Rattle.utils.specs.declared.Split.the-variants.{Own, Rewritten, NotSplit}
-use Rattle.builder.specs.declared.Outcome.{Outcome}
-use Rattle.builder.specs.declared.Outcome.the-variants.{Record, Refused}
+use Rattle.records.specs.declared.Outcome.{Outcome}
+use Rattle.records.specs.declared.Outcome.the-variants.{Record, Refused}
 use Rattle.exports.specs.declared.Answer.{Answer}
 use Rattle.exports.specs.declared.SplitAnswer.{SplitAnswer}
 

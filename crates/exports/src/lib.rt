@@ -1,6 +1,6 @@
 // The three entries for programs in C or Rust: a slice is a pointer and a count, an outcome is numbers.
-use builder::Outcome;
 use model::Refusal;
+use records::Outcome;
 use utils::Split;
 ghost use mathlib.Core.List.{[], _∷_};
 ghost use mathlib.Core.Path.{_≡_};

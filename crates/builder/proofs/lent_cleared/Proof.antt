@@ -6,6 +6,7 @@ use Rattle.lent.specs.LentPlane.{LentPlane}
 use Rattle.policies.specs.LentPolicy.{lentPolicy}
 use Rattle.builder.specs.Entries.{lentSizes}
 use Rattle.builder.proofs.EndLaws.{Cleared, none, one, cleared-all, zeros-same, end-cleared}
+use Rattle.builder.proofs.RoomLaws.{lent-room}
 use borrow.Author.Needs.{needs}
 use Rattle.builder.proofs.lent_cleared.Statement.{statement}
 use Rattle.builder.proofs.lent_cleared.Tie as tie
@@ -36,7 +37,9 @@ lent s =
 
 lent-record-requires : tie.Need-lent-record-requires
 lent-record-requires c κs =
-    c .before .before .before .before .before .before .before .before .before .before .before .before .before .before .before .before .before .before .pre
+    let s = c .before .before .before .before .before .before .before .before .before .before .before .before .before .before .before .before .before .before in
+    let a = s .args in
+    lent-room (a .plane .now) (a .spans .now) (a .upright .now) (a .slots .now) (a .scratch .now) (s .pre)
 
 clear-four-requires : tie.Need-clear-four-requires
 clear-four-requires c κs = search needs

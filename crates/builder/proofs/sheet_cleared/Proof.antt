@@ -5,6 +5,7 @@ use Prim.Native.Nat.{ℕ}
 use Rattle.policies.specs.DrawnPolicy.{walkedPolicy}
 use Rattle.builder.specs.Entries.{sheetSizes}
 use Rattle.builder.proofs.EndLaws.{Cleared, none, one, cleared-all, zeros-same, end-cleared}
+use Rattle.builder.proofs.RoomLaws.{sheet-room}
 use borrow.Author.Needs.{needs}
 use Rattle.builder.proofs.sheet_cleared.Statement.{statement}
 use Rattle.builder.proofs.sheet_cleared.Tie as tie
@@ -30,7 +31,9 @@ gone c =
 
 sheet-record-requires : tie.Need-sheet-record-requires
 sheet-record-requires c κs =
-    c .before .before .before .before .before .before .before .before .before .before .before .before .before .before .before .before .before .before .before .before .before .pre
+    let s = c .before .before .before .before .before .before .before .before .before .before .before .before .before .before .before .before .before .before .before .before .before in
+    let a = s .args in
+    sheet-room (a .text .now) (a .thins .now) (a .bodies .now) (a .grid .now) (a .rects .now) (a .spans .now) (a .plane .now) (a .bytes .now) (a .scratch .now) (s .pre)
 
 clear-four-requires : tie.Need-clear-four-requires
 clear-four-requires c κs = search needs

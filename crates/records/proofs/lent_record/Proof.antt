@@ -1,4 +1,4 @@
--- `builder::lent_record` meets its contract.
+-- `records::lent_record` meets its contract.
 use mathlib.Core.Path.{_≡_, sym, ap, _∙_, subst}
 use mathlib.Core.List.{List}
 use Prim.Native.Nat.{ℕ, _≤_}
@@ -13,13 +13,11 @@ use Rattle.recognizer.specs.declared.Recognized.the-variants.{Stands}
 use Rattle.recognizer.specs.declared.SlotTable.{SlotTable}
 use Rattle.tables.specs.NamedTable.{namedTable, NamedHeld, AnswerHeld}
 use Rattle.lent.specs.LentPlane.{LentPlane}
-use Rattle.sources.specs.LentTable.{LentRoom}
 use Rattle.policies.specs.LentPolicy.{lentPolicy}
-use Rattle.builder.specs.Ends.{outcomeOf, recordOf}
-use Rattle.builder.proofs.RoomLaws.{lent-room}
+use Rattle.records.specs.Outcomes.{outcomeOf, recordOf}
 use borrow.Author.Needs.{needs}
-use Rattle.builder.proofs.lent_record.Statement.{statement}
-use Rattle.builder.proofs.lent_record.Tie as tie
+use Rattle.records.proofs.lent_record.Statement.{statement}
+use Rattle.records.proofs.lent_record.Tie as tie
 
 -- the table that was made, by its places
 abbrev made : tie.After-known-told → tie.After-lent-table
@@ -39,9 +37,6 @@ lent s =
 abbrev table : tie.After-known-told → SlotTable
 table c = c .before .t .given .0 .0
 
-room : (s : tie.Start) → LentRoom (s .args .plane .now) (s .args .spans .now) (s .args .upright .now) (s .args .slots .now) × (textBytes ≤ length (s .args .scratch .now))
-room s = let a = s .args in lent-room (a .plane .now) (a .spans .now) (a .upright .now) (a .slots .now) (a .scratch .now) (s .pre)
-
 held : (c : tie.After-known-told) → NamedHeld (table c) (start c .args .bytes .now) (slots c)
 held c = subst (λ (x : Recognized). AnswerHeld x (start c .args .bytes .now) (slots c)) (c .before .t .given .1) (made c .lent-table .ensures .1)
 
@@ -50,7 +45,7 @@ told c = ap (λ (x : Recognized). namedTable x (start c .args .bytes .now) (slot
 
 lent-table-requires : tie.Need-lent-table-requires
 lent-table-requires c κs =
-    room (c .before .before .before .before .before .before .before .before .before .before .before .before .before .before .before .before) .0
+    c .before .before .before .before .before .before .before .before .before .before .before .before .before .before .before .before .pre .0
 
 enum-known-t : tie.Need-enum-known-t
 enum-known-t c = search needs
@@ -58,7 +53,7 @@ enum-known-t c = search needs
 write-table-requires : tie.Need-write-table-requires
 write-table-requires c κs =
     let k = c .before .before .before in
-    let p = room (start k) in
+    let p = start k .pre in
     (held k, omega (arith, p .0 .room, made k .lent-table .kept .1 .1 .1 .1 .1 .1 .1 .1 .1 .0), p .1)
 
 enum-known-r : tie.Need-enum-known-r

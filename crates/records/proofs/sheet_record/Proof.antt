@@ -1,4 +1,4 @@
--- `builder::sheet_record` meets its contract.
+-- `records::sheet_record` meets its contract.
 use mathlib.Core.Path.{_≡_, sym, ap, _∙_, subst}
 use mathlib.Core.List.{List}
 use Prim.Native.Nat.{ℕ, _≤_}
@@ -12,13 +12,11 @@ use Rattle.recognizer.specs.declared.Recognized.{Recognized}
 use Rattle.recognizer.specs.declared.Recognized.the-variants.{Stands}
 use Rattle.recognizer.specs.declared.SlotTable.{SlotTable}
 use Rattle.tables.specs.NamedTable.{namedTable, NamedHeld, AnswerHeld}
-use Rattle.sources.specs.DrawnTable.{DrawnRoom}
 use Rattle.policies.specs.DrawnPolicy.{walkedPolicy}
-use Rattle.builder.specs.Ends.{outcomeOf, recordOf}
-use Rattle.builder.proofs.RoomLaws.{sheet-room}
+use Rattle.records.specs.Outcomes.{outcomeOf, recordOf}
 use borrow.Author.Needs.{needs}
-use Rattle.builder.proofs.sheet_record.Statement.{statement}
-use Rattle.builder.proofs.sheet_record.Tie as tie
+use Rattle.records.proofs.sheet_record.Statement.{statement}
+use Rattle.records.proofs.sheet_record.Tie as tie
 
 -- the table that was drawn, by its places
 abbrev drawn : tie.After-known-told → tie.After-drawn-table
@@ -36,9 +34,6 @@ bytes c = take textBytes (drawn c .drawn-table .last .1 .1 .1 .1 .1 .1 .0)
 abbrev table : tie.After-known-told → SlotTable
 table c = c .before .t .given .0 .0
 
-room : (s : tie.Start) → DrawnRoom (s .args .text .now) (s .args .thins .now) (s .args .bodies .now) (s .args .grid .now) (s .args .rects .now) (s .args .bytes .now) (s .args .spans .now) (s .args .plane .now) × (textBytes ≤ length (s .args .scratch .now))
-room s = let a = s .args in sheet-room (a .text .now) (a .thins .now) (a .bodies .now) (a .grid .now) (a .rects .now) (a .spans .now) (a .plane .now) (a .bytes .now) (a .scratch .now) (s .pre)
-
 held : (c : tie.After-known-told) → NamedHeld (table c) (bytes c) (slots c)
 held c = subst (λ (x : Recognized). AnswerHeld x (bytes c) (slots c)) (c .before .t .given .1) (drawn c .drawn-table .ensures .1)
 
@@ -47,7 +42,7 @@ told c = ap (λ (x : Recognized). namedTable x (bytes c) (slots c)) (sym (c .bef
 
 drawn-table-requires : tie.Need-drawn-table-requires
 drawn-table-requires c κs =
-    room (c .before .before .before .before .before .before .before .before .before .before .before .before .before .before .before .before .before .before .before) .0
+    c .before .before .before .before .before .before .before .before .before .before .before .before .before .before .before .before .before .before .before .pre .0
 
 enum-known-t : tie.Need-enum-known-t
 enum-known-t c = search needs
@@ -60,12 +55,12 @@ part-write-table-start c = search needs
 
 part-write-table-end : tie.Need-part-write-table-end
 part-write-table-end c =
-    omega (arith, room (c .before .before .before .before .before .before .before .before .before .before .before .before .before .before .before .before .before .before .before .before .before .before .before .before .before .before .before .before .before .before .before .before .before .before .before .before .before .before .before .before) .0 .allTexts, c .before .before .before .before .before .before .before .before .before .before .before .before .before .before .before .before .before .before .before .before .drawn-table .kept .1 .1 .1 .1 .1 .1 .0)
+    omega (arith, c .before .before .before .before .before .before .before .before .before .before .before .before .before .before .before .before .before .before .before .before .before .before .before .before .before .before .before .before .before .before .before .before .before .before .before .before .before .before .before .before .pre .0 .allTexts, c .before .before .before .before .before .before .before .before .before .before .before .before .before .before .before .before .before .before .before .before .drawn-table .kept .1 .1 .1 .1 .1 .1 .0)
 
 write-table-requires : tie.Need-write-table-requires
 write-table-requires c κs =
     let k = c .before .before .before .before .before in
-    let p = room (start k) in
+    let p = start k .pre in
     (held k, omega (arith, p .0 .layers .thin, drawn k .drawn-table .kept .1 .1 .0), p .1)
 
 enum-known-r : tie.Need-enum-known-r

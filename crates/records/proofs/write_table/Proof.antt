@@ -1,10 +1,10 @@
--- `builder::write_table` meets its contract.
+-- `records::write_table` meets its contract.
 use mathlib.Core.Path.{refl, sym, _∙_}
 use Rattle.record.specs.declared.Head.{Head}
-use Rattle.builder.proofs.EndLaws.{Heads, head-record, head-total, slots-held}
+use Rattle.records.proofs.OutcomeLaws.{Heads, head-record, head-total, slots-held}
 use borrow.Author.Needs.{needs}
-use Rattle.builder.proofs.write_table.Statement.{statement}
-use Rattle.builder.proofs.write_table.Tie as tie
+use Rattle.records.proofs.write_table.Statement.{statement}
+use Rattle.records.proofs.write_table.Tie as tie
 
 abbrev start : tie.After-struct-known4 → tie.Start
 start c = c .before .before .before .before .before .before .before .before .before .before
