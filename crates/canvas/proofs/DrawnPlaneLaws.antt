@@ -1,18 +1,17 @@
 -- The ways of reading the plane of a drawing, and the slices that hold it.
 use mathlib.Core.Path.{_≡_, sym, subst}
 use mathlib.Core.List.{List}
-use Prim.Native.Nat.{ℕ, _+_, _*_, _≤_, _<_}
+use Prim.Native.Nat.{ℕ, _*_, _≤_}
 use native.Mathlib.Omega.{arith}
 use lib.ListN.{length, take}
 use lib.Seq.{length-take-le}
-use Rattle.lists.specs.Answer.{ok, refused, _>>=_}
+use Rattle.lists.specs.Answer.{ok, refused}
 use Rattle.lists.specs.Picture.{Picture}
 use Rattle.lists.proofs.RunLaws.{length-run}
-use Rattle.model.specs.Limits.{regionCount, textBytes}
+use Rattle.model.specs.Limits.{textBytes}
 use Rattle.model.specs.declared.Refusal.{Refusal}
 use Rattle.cells.specs.Held.{Held}
 use Rattle.cells.specs.Plane.{Plane, planeIn, PlaneFits}
-use Rattle.cells.specs.Spans.{offsetAt, lengthAt}
 use Rattle.cells.proofs.AmongLaws.{Among, among-regions}
 use Rattle.outline.specs.declared.Outline.{Outline}
 use Rattle.regions.specs.Rects.{rectAt, rectsOf}

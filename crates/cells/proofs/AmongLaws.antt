@@ -1,9 +1,9 @@
 -- The numbers of a plane's regions.
-use mathlib.Core.Path.{_≡_, sym, ap, _∙_, subst}
+use mathlib.Core.Path.{_≡_, _∙_, subst}
 use mathlib.Core.List.{List, []}
 use Prim.Native.Nat.{ℕ, _<_}
 use native.Mathlib.Omega.{arith}
-use lib.ListN.{length, getD}
+use lib.ListN.{getD}
 use Rattle.lists.proofs.AllLaws.{All, all-at}
 use Rattle.lists.proofs.RunLaws.{getD-build}
 use Rattle.model.specs.declared.Cell.{Cell}

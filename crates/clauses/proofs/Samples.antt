@@ -1,9 +1,8 @@
 -- Upright sheets by example, by computation: the text of region r is r, but that of one region is empty.
-use mathlib.Core.Bool.{Bool, true, false}
 use mathlib.Core.List.{List, [], _∷_}
 use mathlib.Core.Option.{none, some}
 use mathlib.Core.Path.{_≡_, refl}
-use Prim.Native.Nat.{ℕ, _+_}
+use Prim.Native.Nat.{ℕ}
 use lib.Dec.{eqb}
 use Rattle.lists.specs.Answer.{ok, refused, _>>=_}
 use Rattle.lists.specs.Choose.{choose}
@@ -17,7 +16,7 @@ use Rattle.record.specs.Policy.{Text}
 use Rattle.record.specs.Record.{inputTexts, outputTexts, ruleTexts}
 use Rattle.clauses.specs.Readings.{along, every}
 use Rattle.clauses.specs.SheetCells.{regionAt, columnIs, meetRow, apartFrom, placeInRow, placeFrom}
-use Rattle.clauses.specs.Clauses.{allowedBy, allowedTwo, allowedThree, allowedOf, textAt, optionalAt, entriesOf, oneOutput, manyOutputs, outputsOf, notesOf, foundFrom}
+use Rattle.clauses.specs.Clauses.{allowedTwo, allowedThree, allowedOf, textAt, optionalAt, entriesOf, oneOutput, manyOutputs, outputsOf, notesOf, foundFrom}
 use Rattle.clauses.specs.Sizes.{uneven, sized}
 use Rattle.clauses.specs.Stated.{statedBy, clausesOf, clauseTexts}
 
@@ -81,11 +80,3 @@ three =
 pub three-rows : read 0 three 1 ≡ refused TooManyOutputRows
 unfolding read
 three-rows = refl
-
--- how many of the settings of a fact count
-abbrev both : (Bool → ℕ) → ℕ
-both f = f true + f false
-
--- of the 32 settings of the five facts for two clause rows 19 mean allowed values
-pub nineteen : both (λ inputs. both (λ has. both (λ several. both (λ joined. both (λ apart. choose (allowedBy inputs has several joined apart) 1 0))))) ≡ 19
-nineteen = refl

@@ -14,7 +14,7 @@ use Rattle.model.specs.declared.Cell.{Cell}
 use Rattle.model.specs.declared.Cell.the-variants.{Region}
 use Rattle.model.specs.declared.Refusal.the-variants.{CellOutOfRange, CellNotRegion}
 use Rattle.cells.specs.Plane.{Plane}
-use Rattle.clauses.specs.Readings.{every, pass}
+use Rattle.clauses.specs.Readings.{every}
 
 -- how many cells row y has
 abbrev pub widthOf : Plane → ℕ → ℕ

@@ -1,7 +1,6 @@
 -- The texts of a sheet whose shape is known, in slot order. No reader has to believe this: it is shown to be the texts of `clausesOf`.
-use mathlib.Core.Bool.{Bool}
 use mathlib.Core.List.{List, [], _∷_, _++_}
-use mathlib.Core.Option.{Option, none, some}
+use mathlib.Core.Option.{none, some}
 use Prim.Native.Nat.{ℕ, zero, suc, _+_, _-_}
 use Rattle.lists.specs.Answer.{ok, refused}
 use Rattle.lists.specs.Choose.{choose}
@@ -12,8 +11,6 @@ use Rattle.record.specs.Policy.{Text}
 use Rattle.clauses.specs.Clauses.{present}
 use Rattle.clauses.specs.SheetCells.{regionAt}
 use Rattle.clauses.specs.Stated.{allowedText, defaultText}
-use Rattle.clauses.specs.declared.Layout.{Layout}
-use Rattle.clauses.specs.declared.Notes.{Notes}
 use Rattle.clauses.specs.declared.Shape.{Shape}
 
 -- f k, f (k + 1), .., n lists, one behind the other

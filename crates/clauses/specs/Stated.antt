@@ -4,7 +4,7 @@ use mathlib.Core.Option.{none, some}
 use Prim.Native.Nat.{ℕ}
 use lib.Dec.{ltb}
 use lib.ListN.{length, getD}
-use Rattle.lists.specs.Answer.{ok, refused, _>>=_, _>>_}
+use Rattle.lists.specs.Answer.{ok, _>>=_, _>>_}
 use Rattle.lists.specs.Choose.{choose}
 use Rattle.lists.specs.Run.{build}
 use Rattle.model.specs.Refusals.{Reading}

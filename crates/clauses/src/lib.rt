@@ -12,7 +12,6 @@ ghost use lib.ListN.{length};
 ghost use Rattle.lists.specs.OneOf.{oneOf};
 ghost use Rattle.model.specs.Limits.{planeRows, planeCells, planeSize};
 ghost use Rattle.cells.specs.Plane.{planeIn, rowIn, PlaneFits};
-ghost use Rattle.clauses.specs.Readings.{pass};
 ghost use Rattle.clauses.specs.SheetCells.{widthOf, regionAt, columnIs, columnsAre, meetRow, allApart, placeInRow, placeOf};
 ghost use Rattle.clauses.specs.Clauses.{allowedBy, allowedTwo, allowedThree, allowedOf, outputsEnd};
 ghost use Rattle.clauses.specs.Shape.{fineRow, fineRows, oneLayout, namedLayout, labelledLayout, manyLayout, layoutOf, notesAt, inputsFine, clausesAt, shapeOf, sizesOf, checkedShape};

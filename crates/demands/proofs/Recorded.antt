@@ -1,24 +1,22 @@
 -- What a call that answers a record has read and written.
 use mathlib.Core.Bool.{Bool, true, false}
-use mathlib.Core.List.{List, _++_, map}
-use mathlib.Core.Path.{_≡_, refl, sym, ap, _∙_}
+use mathlib.Core.List.{List, map}
+use mathlib.Core.Path.{_≡_, refl}
 use Prim.Native.Nat.{ℕ}
 use native.Mathlib.Omega.{arith}
 use lib.Dec.{ltb}
-use lib.ListN.{length, drop}
+use lib.ListN.{length}
 use Rattle.lists.specs.Answer.{ok, refused}
 use Rattle.lists.specs.Choose.{choose}
 use Rattle.lists.specs.Put.{put}
-use Rattle.lists.proofs.PutLaws.{put-front}
 use Rattle.model.specs.Refusals.{Reading}
 use Rattle.model.specs.declared.Refusal.{Refusal}
 use Rattle.model.specs.declared.Refusal.the-variants.{OutputSliceShort}
 use Rattle.record.specs.Policy.{Policy}
-use Rattle.record.specs.Record.{Table, total, encode, tableOf}
+use Rattle.record.specs.Record.{total, encode, tableOf}
 use Rattle.recognizer.specs.Told.{tableRead}
 use Rattle.builder.specs.Ends.{End, roomFrom, endBy, endOf}
-use Rattle.records.specs.Outcomes.{outcomeOf, recordOf}
-use Rattle.records.specs.declared.Outcome.{Outcome}
+use Rattle.records.specs.Outcomes.{outcomeOf}
 use Rattle.records.specs.declared.Outcome.the-variants.{Record, Refused}
 use Rattle.policies.specs.DrawnPolicy.{walkedPolicy}
 use Rattle.policies.specs.LentPolicy.{lentPolicy}

@@ -1,7 +1,7 @@
 -- Demand 3, first half: "Whatever two drawings the reader accepts, however their boxes are joined or split: their records are the same bytes,
 -- the orientation word set aside, exactly when the drawings state the same policy". Document 01: "A lent plane .. stands with the drawings
 -- under demand 3."
-use mathlib.Core.List.{List, _++_}
+use mathlib.Core.List.{List}
 use mathlib.Core.Logic.{_↔_}
 use mathlib.Core.Path.{_≡_, refl}
 use Prim.Native.Nat.{ℕ}
@@ -17,7 +17,7 @@ use Rattle.policies.specs.Source.{Source, statedBy}
 use Rattle.policies.proofs.StatedFits.{stated-recordable}
 use Rattle.records.specs.declared.Outcome.the-variants.{Record}
 use Rattle.demands.specs.SourceEnd.{sourceEnd}
-use Rattle.demands.proofs.Recorded.{Recorded, accepted}
+use Rattle.demands.proofs.Recorded.{accepted}
 
 -- two sources that state the policies p and q, and record slices that were written to
 pub told-apart : (x y : Source) (p q : Policy) (o u : List ℕ) → statedBy x ≡ ok p → statedBy y ≡ ok q

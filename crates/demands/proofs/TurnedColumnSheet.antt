@@ -1,7 +1,6 @@
 -- Demand 3, second half: "Whichever even plane is lent and accepted as a column sheet: with its last row put before its first and the whole
 -- then turned, the double lines of that row too, nothing but short slices refuses it, and otherwise it gives the same record, that word set
 -- aside." Document 01: "Short slices are numbers 27 and 28."
-use mathlib.Core.Bool.{Bool, true, false}
 use mathlib.Core.List.{List, [], _∷_, map}
 use mathlib.Core.Path.{_≡_, refl, ap}
 use Prim.Native.Nat.{ℕ, suc}
@@ -9,7 +8,6 @@ use native.Mathlib.Omega.{arith}
 use lib.Dec.{ltb}
 use lib.ListN.{length}
 use Rattle.lists.specs.Answer.{ok, refused}
-use Rattle.lists.specs.Choose.{choose}
 use Rattle.lists.specs.Put.{put}
 use Rattle.lists.specs.Transpose.{Even}
 use Rattle.lists.proofs.Tests.{by-flag}

@@ -1,31 +1,15 @@
--- Examples of document 01 on refusals of the canvas (● proved), and a small table.
+-- The outline of a small table, by computation.
 use mathlib.Core.Path.{_≡_, refl}
 use mathlib.Core.Bool.{false}
 use mathlib.Core.List.{List, [], _∷_}
 use Prim.Native.Nat.{ℕ}
-use Rattle.lists.specs.Answer.{ok, refused}
+use Rattle.lists.specs.Answer.{ok}
 use Rattle.lists.specs.OneOf.{oneOf}
 use Rattle.lists.specs.Picture.{canvas, within}
 use Rattle.model.specs.Box.{┌, ┐, └, ┘, ─, ═, ╞, ╡, ╥, ╨, ╬}
-use Rattle.model.specs.declared.Refusal.the-variants.{CharactersNotFound}
 use Rattle.walks.specs.Walk.{walkFrom}
-use Rattle.outline.specs.Outline.{searchFrom, namedBy, namedOf, bodyOf, tableOf, outlineBy, outlineOf}
+use Rattle.outline.specs.Outline.{searchFrom, namedBy, bodyOf, tableOf, outlineBy, outlineOf}
 use Rattle.outline.specs.declared.Crossing.the-variants.{Nowhere}
-
--- no rows: 3 9484
-no-rows : outlineOf (canvas 0 0 []) 0 0 ≡ refused (CharactersNotFound 9484)
-unfolding outlineBy searchFrom
-no-rows = refl
-
--- ┌: 3 9573
-one-corner : outlineOf (canvas 1 1 (┌ ∷ [])) 1 1 ≡ refused (CharactersNotFound 9573)
-unfolding outlineBy searchFrom within
-one-corner = refl
-
--- ┌╥┐: 3 9580
-one-edge : outlineOf (canvas 3 1 (┌ ∷ ╥ ∷ ┐ ∷ [])) 3 1 ≡ refused (CharactersNotFound 9580)
-unfolding outlineBy searchFrom namedBy within
-one-edge = refl
 
 -- ┌─╥┐
 -- ╞═╬╡

@@ -2,7 +2,7 @@
 use mathlib.Core.Path.{_≡_}
 use mathlib.Core.List.{[]}
 use lib.ListN.{getD}
-use Rattle.lists.specs.Answer.{ok, refused, _>>=_}
+use Rattle.lists.specs.Answer.{ok, refused}
 use Rattle.model.specs.Refusals.{Reading}
 use Rattle.model.specs.declared.Refusal.{Refusal}
 use Rattle.cells.specs.Plane.{TextPlane}

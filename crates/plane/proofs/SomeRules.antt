@@ -5,10 +5,9 @@ use mathlib.Core.List.{List}
 use Prim.Native.Nat.{ℕ, _<_}
 use lib.Dec.{ltb}
 use borrow.Author.Tests.{ltb-true}
-use Rattle.lists.specs.Answer.{ok, refused, _>>=_}
+use Rattle.lists.specs.Answer.{ok, refused}
 use Rattle.lists.specs.Choose.{choose}
 use Rattle.lists.proofs.AnswerLaws.{refused-ok, then-ok}
-use Rattle.lists.proofs.Tests.{by-flag}
 use Rattle.model.specs.Refusals.{Reading}
 use Rattle.model.specs.declared.Cell.the-variants.{HorizontalDoubleCrossing, VerticalDoubleCrossing}
 use Rattle.model.specs.declared.HitPolicy.{HitPolicy}

@@ -1,11 +1,10 @@
 -- The ways of reading an upright sheet, and the slices that hold it.
-use mathlib.Core.Path.{_≡_, sym, _∙_, subst}
+use mathlib.Core.Path.{_≡_, sym, subst}
 use mathlib.Core.List.{List, map}
 use Prim.Native.Nat.{ℕ, _<_}
 use lib.ListN.{drop}
 use Rattle.lists.specs.Answer.{ok, refused, _>>=_}
 use Rattle.lists.proofs.AnswerLaws.{then-ok}
-use Rattle.model.specs.Refusals.{Reading}
 use Rattle.model.specs.declared.Orientation.{Orientation}
 use Rattle.model.specs.declared.Orientation.the-variants.{RulesAsRows, RulesAsColumns}
 use Rattle.model.specs.declared.Refusal.{Refusal}
@@ -16,8 +15,8 @@ use Rattle.placement.specs.Placement.{placementOf, ruleNumbersOf}
 use Rattle.placement.specs.declared.Oriented.{Oriented}
 use Rattle.placement.proofs.CornerLaws.{placed-rows}
 use Rattle.model.specs.declared.Cell.the-variants.{HorizontalDoubleCrossing, VerticalDoubleCrossing}
-use Rattle.turning.specs.Upright.{butLast, turned, pivotOf, uprightOf}
-use Rattle.plane.specs.Sheet.{Sheet, statedSheet}
+use Rattle.turning.specs.Upright.{butLast, uprightOf}
+use Rattle.plane.specs.Sheet.{statedSheet}
 use Rattle.plane.proofs.RegionsKept.{RegionsBelow, slice-below, below-slice, rest-below, turned-below, but-below}
 use Rattle.plane.proofs.TurnedColumnSheet.{pivot-ok}
 

@@ -1,14 +1,13 @@
 -- A layer that is being printed.
-use mathlib.Core.Path.{_≡_, refl, sym, ap, _∙_}
+use mathlib.Core.Path.{_≡_, refl, ap, _∙_}
 use mathlib.Core.List.{List, [], _∷_, _++_}
-use Prim.Native.Nat.{ℕ, suc, _+_, _*_, _≤_, _<_}
+use Prim.Native.Nat.{ℕ, _+_, _*_, _≤_, _<_}
 use native.Mathlib.Numerals.{add-one}
 use native.Mathlib.Omega.{arith}
 use lib.Dec.{leb}
 use lib.ListN.{length}
 use Rattle.lists.specs.Picture.{Picture}
 use Rattle.lists.specs.Put.{put}
-use Rattle.lists.proofs.PutLaws.{put-nil}
 use Rattle.lists.proofs.Tests.{by-flag}
 use Rattle.model.specs.Limits.{canvasColumns}
 use Rattle.unicode.specs.Utf8.{encode}

@@ -2,19 +2,18 @@
 use model::Refusal;
 ghost use mathlib.Core.List.{[], _∷_, _++_};
 ghost use Prim.Native.Nat.{_+_, _*_, _≤_, _<_};
-ghost use lib.ListN.{length, getD};
+ghost use lib.ListN.{length};
 ghost use Rattle.lists.specs.Picture.{canvas};
 ghost use Rattle.model.specs.Cells.{cellNumber};
 ghost use Rattle.model.specs.Limits.{planeRows, planeCells, planeSize};
 ghost use Rattle.model.specs.Refusals.{numbers};
 ghost use Rattle.regions.specs.Rects.{rectAt, rectsOf};
-ghost use Rattle.texts.specs.RegionText.{packed};
 ghost use Rattle.cells.specs.Plane.{cellAt, rowIn, planeIn, PlaneFits};
 ghost use Rattle.cells.specs.Spans.{offsetAt, lengthAt, textAt, textsIn};
 ghost use Rattle.print.specs.Decimal.{decimal, listed, Written};
 ghost use Rattle.print.specs.Lines.{lineFeed, valuesLine, threeLine, refusedLine, countLine};
 ghost use Rattle.print.specs.Planes.{cellsLine, planeLines, cellsBytes, planeBytes, uprightLines, uprightBytes};
-ghost use Rattle.print.specs.Drawings.{rowTo, rowsTo, layerLines, layersLines, layersBytes, rowBytes, Layer, numberWord, rectWords, regionLine, countedLines, regionBytes, nameLine, nameBytes, Texts, Regions};
+ghost use Rattle.print.specs.Drawings.{rowTo, layerLines, layersLines, layersBytes, rowBytes, Layer, numberWord, rectWords, regionLine, countedLines, regionBytes, nameLine, nameBytes, Texts, Regions};
 
 // A number in decimal, from index `at` on.
 pub fn put_number(out: &mut [u8], at: usize, n: u64) -> usize

@@ -7,20 +7,17 @@ use native.Mathlib.Omega.{arith}
 use lib.ListN.{length}
 use Rattle.lists.specs.Answer.{ok, refused, _>>=_}
 use Rattle.model.specs.Limits.{planeRows}
-use Rattle.model.specs.Policies.{policyNumber, orientationNumber}
 use Rattle.model.specs.Refusals.{Reading}
-use Rattle.model.specs.declared.HitPolicy.{HitPolicy}
-use Rattle.model.specs.declared.Orientation.{Orientation}
 use Rattle.model.specs.declared.Refusal.{Refusal}
 use Rattle.cells.specs.Plane.{Plane}
 use Rattle.record.specs.Policy.{Text, Policy, Complete}
-use Rattle.record.specs.Record.{Table, packed, slotCount, slotTexts, tableOf}
+use Rattle.record.specs.Record.{packed, slotCount, slotTexts}
 use Rattle.record.specs.Slots.{slotLimit}
 use Rattle.record.proofs.PolicyTexts.{texts-counted}
 use Rattle.plane.specs.Sheet.{Sheet, statedSheet}
 use Rattle.clauses.specs.Shape.{checkedShape}
 use Rattle.clauses.specs.Spelled.{spelled}
-use Rattle.clauses.specs.Stated.{Clauses, statedBy, clausesOf, clauseTexts}
+use Rattle.clauses.specs.Stated.{Clauses, statedBy, clauseTexts}
 use Rattle.clauses.specs.Told.{ShapeFits}
 use Rattle.clauses.specs.declared.Shape.{Shape}
 use Rattle.clauses.proofs.Apart.{foundAs}
@@ -33,7 +30,7 @@ use Rattle.writer.specs.SlotTexts.{textsFrom}
 use Rattle.recognizer.specs.StatedPolicy.{sheetPolicy, statedPolicy}
 use Rattle.recognizer.specs.Told.{tableRead, tableIn, TableHeld}
 use Rattle.recognizer.specs.declared.SlotTable.{SlotTable}
-use Rattle.recognizer.specs.declared.Recognized.the-variants.{Stands, NotRecognized}
+use Rattle.recognizer.specs.declared.Recognized.the-variants.{Stands}
 
 -- a policy of what the clause rules give
 abbrev pub with : Text → Sheet → Clauses → Policy

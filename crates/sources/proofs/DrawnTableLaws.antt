@@ -20,7 +20,6 @@ use Rattle.model.specs.declared.Refusal.{Refusal}
 use Rattle.cells.specs.Held.{Held}
 use Rattle.cells.specs.Plane.{TextPlane, planeIn}
 use Rattle.cells.specs.Spans.{offsetAt, lengthAt, textAt, textsIn}
-use Rattle.record.specs.Policy.{Text, Policy}
 use Rattle.outline.specs.Outline.{searchOf, namedBy, namedOf, tableOf, outlineBy, outlineOf, bodyOf}
 use Rattle.outline.specs.declared.Outline.{Outline}
 use Rattle.regions.specs.Rects.{Layer}

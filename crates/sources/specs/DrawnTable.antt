@@ -4,7 +4,7 @@ use mathlib.Core.List.{List}
 use Prim.Native.Nat.{ℕ, _+_, _*_, _≤_}
 use lib.ListN.{length, take}
 use Rattle.lists.specs.Answer.{ok, refused, _>>=_}
-use Rattle.model.specs.Limits.{canvasSize, planeSize, regionCount, textBytes}
+use Rattle.model.specs.Limits.{planeSize, regionCount, textBytes}
 use Rattle.model.specs.Refusals.{Reading}
 use Rattle.cells.specs.Held.{Held}
 use Rattle.cells.specs.Plane.{TextPlane, planeIn}

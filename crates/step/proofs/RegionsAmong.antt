@@ -23,7 +23,7 @@ use Rattle.cells.proofs.AmongLaws.{Numbered, Among}
 use Rattle.outline.specs.declared.Crossing.{Crossing}
 use Rattle.outline.specs.declared.Outline.{Outline}
 use Rattle.regions.specs.Regions.{Finder}
-use Rattle.step.specs.PlaneStep.{Row, Rows, isAt, regionFrom, regionOf, outputLine, annotationLine, addLine, cornersIn, fitting, outputBefore, annotationBefore, withCell, addCell, rowBy, addRow, addFrames, addGridRow, noRows, rowsBy, planeBy}
+use Rattle.step.specs.PlaneStep.{Row, Rows, isAt, regionOf, outputLine, annotationLine, addLine, cornersIn, fitting, outputBefore, annotationBefore, withCell, addCell, rowBy, addRow, addFrames, addGridRow, noRows, rowsBy, planeBy}
 use Rattle.step.proofs.RegionLaws.{number-in}
 
 no-region : {A : Type 0} → _≡_ {A = ℕ} 0 1 → A

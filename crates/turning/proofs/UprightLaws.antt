@@ -1,23 +1,21 @@
 -- A row without its first cell, rows that are wide, and a plane turned, by places.
 use mathlib.Core.Path.{_≡_, refl, sym, ap, _∙_, subst}
 use mathlib.Core.Bool.{Bool, true, false, _&&_}
-use mathlib.Core.List.{List, [], _∷_, map}
+use mathlib.Core.List.{List, map}
 use Prim.Native.Nat.{ℕ, zero, suc, _+_, _-_, _≤_, _<_}
 use native.Mathlib.Numerals.{add-one}
 use native.Mathlib.Omega.{arith}
 use borrow.Author.Tests.{le-leb, lt-leb, leb-true}
 use lib.Dec.{leb}
-use lib.ListN.{length, getD, drop}
-use Rattle.lists.specs.Choose.{choose}
+use lib.ListN.{getD, drop}
 use Rattle.lists.specs.Run.{run, build}
 use Rattle.lists.specs.Transpose.{width, column, transpose}
-use Rattle.lists.proofs.RunLaws.{run-shift, build-same, getD-build, map-run, length-run}
+use Rattle.lists.proofs.RunLaws.{run-shift, build-same, getD-build, map-run}
 use Rattle.lists.proofs.Tests.{both}
 use Rattle.lists.proofs.TransposeLaws.{width-build}
 use Rattle.model.specs.Cells.{turnedCell}
-use Rattle.model.specs.declared.Cell.{Cell}
 use Rattle.model.specs.declared.Cell.the-variants.{MainDoubleCrossing}
-use Rattle.cells.specs.Plane.{cellAt, cellsIn, rowIn, planeIn, PlaneFits}
+use Rattle.cells.specs.Plane.{cellAt, cellsIn, rowIn, planeIn}
 use Rattle.cells.proofs.PlaneLaws.{length-cells}
 use Rattle.turning.specs.Upright.{wide, turned}
 

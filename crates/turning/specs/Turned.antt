@@ -1,8 +1,7 @@
 -- What turning answers, with the slice that holds the turned plane.
 use mathlib.Core.List.{List}
-use mathlib.Core.Path.{_≡_}
-use Prim.Native.Nat.{ℕ, _≤_, _<_}
-use lib.ListN.{length, getD}
+use Prim.Native.Nat.{ℕ, _≤_}
+use lib.ListN.{length}
 use Rattle.lists.specs.Answer.{ok, refused}
 use Rattle.model.specs.Limits.{planeSize}
 use Rattle.model.specs.Refusals.{Reading}

@@ -11,4 +11,3 @@ pub mod Replacing
 pub mod Finding
 pub mod Answers
 pub mod DefaultLength
-pub mod Examples

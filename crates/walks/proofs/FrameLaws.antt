@@ -7,7 +7,7 @@ use Prim.Native.Nat.{ℕ, _+_, _-_, _<_}
 use native.Mathlib.Omega.{arith}
 use lib.Dec.{eqb}
 use borrow.Author.Tests.{eq-eqb, ne-eqb, eqb-true}
-use Rattle.lists.specs.Answer.{ok, refused, _>>=_}
+use Rattle.lists.specs.Answer.{ok, refused}
 use Rattle.lists.specs.Choose.{choose}
 use Rattle.lists.specs.OneOf.{oneOf}
 use Rattle.lists.specs.Picture.{Picture}

@@ -1,6 +1,6 @@
 -- `builder::read_sheet` meets its contract.
 use mathlib.Core.List.{List, [], _∷_}
-use mathlib.Core.Path.{_≡_, sym, ap, _∙_}
+use mathlib.Core.Path.{sym, ap, _∙_}
 use Prim.Native.Nat.{ℕ}
 use Rattle.policies.specs.DrawnPolicy.{walkedPolicy}
 use Rattle.builder.specs.Ends.{roomIn}

@@ -1,5 +1,5 @@
 -- `exports::split_numbers` meets its contract.
-use mathlib.Core.Path.{sym, ap, _∙_}
+use mathlib.Core.Path.{sym, ap}
 use Rattle.exports.specs.Answers.{splitAnswer}
 use borrow.Author.Needs.{needs}
 use Rattle.exports.proofs.split_numbers.Statement.{statement}

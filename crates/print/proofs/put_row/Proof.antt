@@ -2,7 +2,6 @@
 use native.Mathlib.Omega.{arith}
 use Prim.Native.Nat.{_-_}
 use mathlib.Core.Path.{_∙_}
-use lib.ListN.{length}
 use Rattle.lists.specs.Picture.{canvas, pic}
 use Rattle.lists.proofs.PictureLaws.{within-in, place-fits}
 use Rattle.print.proofs.LayerLaws.{Rowing, rowing-start, rowing-more, rowing-end}

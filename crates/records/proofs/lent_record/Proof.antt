@@ -1,10 +1,9 @@
 -- `records::lent_record` meets its contract.
 use mathlib.Core.Path.{_≡_, sym, ap, _∙_, subst}
 use mathlib.Core.List.{List}
-use Prim.Native.Nat.{ℕ, _≤_}
+use Prim.Native.Nat.{ℕ}
 use native.Mathlib.Omega.{arith}
 use lib.ListN.{length}
-use Rattle.model.specs.Limits.{textBytes}
 use Rattle.model.specs.Refusals.{Reading}
 use Rattle.record.specs.Record.{Table}
 use Rattle.recognizer.specs.Told.{tableRead}

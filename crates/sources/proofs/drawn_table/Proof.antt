@@ -2,12 +2,9 @@
 use mathlib.Core.Path.{_≡_, sym, ap, _∙_, subst}
 use mathlib.Core.List.{List}
 use Prim.Native.Nat.{ℕ}
-use lib.ListN.{take, length-take}
-use Rattle.lists.specs.Answer.{ok}
+use lib.ListN.{length-take}
 use Rattle.model.specs.Limits.{textBytes}
-use Rattle.cells.specs.Plane.{planeIn}
-use Rattle.cells.specs.Spans.{textsIn}
-use Rattle.sources.specs.DrawnTable.{NamedPlane, namedPlane, drawnIn, DrawnHeld}
+use Rattle.sources.specs.DrawnTable.{namedPlane, drawnIn, DrawnHeld}
 use Rattle.sources.specs.declared.DrawnRows.{DrawnRows}
 use Rattle.sources.specs.declared.DrawnRows.the-variants.{Rows}
 use Rattle.sources.proofs.DrawnTableLaws.{no-policy, drawn-policy}

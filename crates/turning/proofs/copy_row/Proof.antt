@@ -1,9 +1,9 @@
 -- `turning::copy_row` meets its contract.
-use mathlib.Core.Path.{_≡_, sym, ap, _∙_, subst}
+use mathlib.Core.Path.{_≡_, sym, ap, _∙_}
 use Prim.Native.Nat.{ℕ, _-_, _+_, _≤_}
 use lib.ListN.{getD}
 use Rattle.lists.specs.Run.{build}
-use Rattle.cells.specs.Plane.{cellAt, cellsIn}
+use Rattle.cells.specs.Plane.{cellAt}
 use Rattle.cells.proofs.PlaneLaws.{kept-refl}
 use Rattle.cells.proofs.FillLaws.{RowFilled, row-start, row-next}
 use Rattle.turning.proofs.UprightLaws.{drop-row, no-cells}
