@@ -11,6 +11,11 @@ ghost use Rattle.print.specs.Decimal.{Written};
 ghost use Rattle.reports.specs.Outcomes.{outcomeLines, OutcomeSound};
 ghost use Rattle.reports.specs.PolicyLines.{recordBytes, policyLines, reportBytes};
 
+// Room for the lines of a record, and for those of a refusal.
+pub const REPORT_BYTES: usize = 348685;
+
+const RECORD_BYTES: usize = 61440;
+
 // The lines of the record slice, or of the refusal.
 fn put_outcome(out: &mut [u8], at: usize, o: Outcome, bytes: &[u8]) -> usize
     requires { ⌜ (at + reportBytes ≤ length (now out)) × (length (now bytes) ≡ recordBytes) × OutcomeSound o (now bytes) ⌝ }
@@ -36,8 +41,8 @@ pub fn put_sheet(out: &mut [u8], at: usize, s: &[u8]) -> usize
     let mut plane = [0u32; 4160];
     let mut bytes = [0u8; 61444];
     let mut scratch = [0u8; TEXT_BYTES];
-    let mut record = [0u8; 61440];
-    let o = builder::read_sheet(
+    let mut record = [0u8; RECORD_BYTES];
+    let drawn = builder::read_sheet(
         s,
         &mut text,
         &mut thins,
@@ -50,7 +55,7 @@ pub fn put_sheet(out: &mut [u8], at: usize, s: &[u8]) -> usize
         &mut scratch,
         &mut record,
     );
-    put_outcome(out, at, o, &record)
+    put_outcome(out, at, drawn, &record)
 }
 
 // The lines for a lent plane.
@@ -72,8 +77,8 @@ pub fn put_lent_plane(
     let mut upright = [0u32; 4160];
     let mut slots = [0u32; 12480];
     let mut scratch = [0u8; TEXT_BYTES];
-    let mut record = [0u8; 61440];
-    let o = builder::read_lent_plane(
+    let mut record = [0u8; RECORD_BYTES];
+    let stated = builder::read_lent_plane(
         rows,
         kinds,
         regions,
@@ -87,5 +92,5 @@ pub fn put_lent_plane(
         &mut scratch,
         &mut record,
     );
-    put_outcome(out, at, o, &record)
+    put_outcome(out, at, stated, &record)
 }
