@@ -1,4 +1,4 @@
--- What a plane within the limits states can be recorded, if its texts are short: the law `plane-recordable`.
+-- What a plane within the limits states can be recorded, if its texts are short: the law `plane-bounded`.
 use mathlib.Core.Path.{_≡_, refl, sym, subst, _∙_}
 use mathlib.Core.List.{List, [], _∷_}
 use Prim.Native.Nat.{ℕ, _≤_, _<_}
@@ -30,6 +30,11 @@ use Rattle.recognizer.proofs.Recognizing.{with, with-texts, by-shape, stated, c
 use Rattle.policies.specs.Recordable.{Recordable}
 use Rattle.policies.proofs.SpelledShort.{Short, spelled-short}
 use Rattle.policies.proofs.UprightWithin.{Within, upright-within}
+
+-- recordable, in at most 4,160 slots
+pub record Bounded (p : Policy) : Type 0 where
+  pub recordable : Recordable p
+  pub few : slotsIn (tableOf p) ≤ slotLimit
 
 first-row : (P : Plane) → width P ≡ widthOf P 0
 unfolding width
@@ -67,11 +72,11 @@ module _ (name : Text) (text : ℕ → List ℕ) (named : Short textBytes name) 
             rules = omega (arith, counted-stated text (s .plane) (s .rules) f .3, few-rules f (sym e));
           }
 
-    sheet-recordable : (p : Policy) → sheetPolicy name text s ≡ ok p → Recordable p
-    sheet-recordable p e =
+    sheet-bounded : (p : Policy) → sheetPolicy name text s ≡ ok p → Bounded p
+    sheet-bounded p e =
         let a = then-ok (checkedShape (s .plane) (s .rules)) _ p (sym (by-shape text s some name) ∙ e) in
         let z : policy (a .0) (sym (a .1)) ≡ p = let g = a .2 in cc in
-        subst Recordable z (shaped-recordable (a .0) (sym (a .1)))
+        subst Bounded z (record { recordable = shaped-recordable (a .0) (sym (a .1)); few = few (a .0) (sym (a .1)) })
 
   sheet-within : (P : Plane) (s : Sheet) → statedSheet text P ≡ ok s → Within P → Within (s .plane)
   unfolding statedSheet
@@ -81,8 +86,8 @@ module _ (name : Text) (text : ℕ → List ℕ) (named : Short textBytes name) 
       let z : record { orientation = o .0 .orientation; policy = o .0 .policy; rules = o .0 .rules; plane = u .0 } ≡ s = let g = u .2 in cc in
       rw (← z) (upright-within (o .0 .orientation) P (u .0) (u .1) w)
 
-  pub plane-recordable : (P : Plane) → Within P → (p : Policy) → statedPolicy name text P ≡ ok p → Recordable p
+  pub plane-bounded : (P : Plane) → Within P → (p : Policy) → statedPolicy name text P ≡ ok p → Bounded p
   unfolding statedPolicy
-  plane-recordable P w p e =
+  plane-bounded P w p e =
       let s = then-ok (statedSheet text P) (sheetPolicy name text) p e in
-      sheet-recordable (s .0) (some-rules text P (s .0) (s .1)) (sheet-within P (s .0) (s .1) w) p (s .2)
+      sheet-bounded (s .0) (some-rules text P (s .0) (s .1)) (sheet-within P (s .0) (s .1) w) p (s .2)

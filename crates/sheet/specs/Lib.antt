@@ -1,0 +1,2 @@
+-- Definitions of what the program prints.
+pub mod Printed
