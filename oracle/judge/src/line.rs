@@ -1,10 +1,13 @@
 //! The lines that the port is compared on: a word that tells the kind, and a list of bytes.
 
 use crate::drawing::{judge_drawing, stage};
+use crate::lent::Lent;
+use crate::limits::RECORD_BYTES;
 use crate::outcome::{Fault, Judged};
 use crate::packed::unpack;
 use crate::split::judge_split;
-use crate::upright::judge_upright;
+use crate::told::{Answer, plane_answer, sheet_answer};
+use crate::upright::{judge_upright, upright_of};
 use std::io::Write;
 
 /// Answers a line; `out` must write to standard output.
@@ -15,11 +18,26 @@ pub fn answer(out: &mut impl Write, line: &str) -> Judged<()> {
         }
         ("drawing", bytes) => judge_drawing(out, &bytes),
         ("plane", bytes) => {
-            let lent = unpack(&bytes).ok_or_else(|| fault(line))?;
+            let lent = lent_in(line, &bytes)?;
             out.write_all(&judge_upright(&lent)).map_err(|error| Fault(error.to_string()))
+        }
+        ("sheet", bytes) => record(out, sheet_answer(&bytes)?),
+        ("table", bytes) => {
+            let lent = lent_in(line, &bytes)?;
+            record(out, plane_answer(&lent, &upright_of(&lent))?)
         }
         _ => Err(fault(line)),
     }
+}
+
+fn lent_in(line: &str, bytes: &[u8]) -> Judged<Lent> {
+    unpack(bytes).ok_or_else(|| fault(line))
+}
+
+/// The record, or the refusal, as the program of document 01 prints it.
+fn record(out: &mut impl Write, answer: Answer) -> Judged<()> {
+    let lines = answer.outcome.within(RECORD_BYTES).print();
+    out.write_all(&lines).map_err(|error| Fault(error.to_string()))
 }
 
 /// The stage that the sheet of a line comes to.
