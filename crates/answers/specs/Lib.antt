@@ -1,0 +1,4 @@
+pub mod Room
+pub mod SplitLines
+pub mod DrawingLines
+pub mod LentLines
