@@ -1,5 +1,4 @@
--- Laws of what is printed for texts, sheets and lent planes.
+-- Laws of what is printed for texts of the value split and for lent planes.
 pub mod SplitLaws
-pub mod DrawingLaws
 pub mod LentLaws
 pub mod Examples

@@ -1,4 +1,2 @@
-pub mod Room
 pub mod SplitLines
-pub mod DrawingLines
 pub mod LentLines

@@ -9,6 +9,9 @@ ghost use Rattle.model.specs.RuleNumbers.{numberOf};
 ghost use Rattle.lines.specs.Texts.{FirstAt, flagged, atMost, bytesIn, bytesBy, textOf, textIn, TextWithin};
 ghost use Rattle.lines.specs.LentText.{counted, cutIn, EndWithin, lentIn, listAt, listsIn, ListsWithin};
 
+// Room for the answer to a line.
+pub const LINE_BYTES: usize = 550000;
+
 // At most so many row lengths, region numbers, and offsets or lengths of a lent plane.
 pub const ROW_MOST: usize = 255;
 

@@ -15,7 +15,7 @@ use Rattle.lines.specs.declared.LentLists.the-variants.{Lists, NoLists}
 use Rattle.lines.specs.declared.LineText.{LineText}
 use Rattle.lines.specs.declared.LineText.the-variants.{Text, Malformed}
 use Rattle.answers.specs.LentLines.{lentLines}
-use Rattle.answers.specs.Room.{lineBytes}
+use Rattle.lines.specs.Room.{lineBytes}
 use Rattle.replay.specs.Answers.{lentAnswer, planeAnswer, AnsweredIn}
 use Rattle.replay.specs.declared.Answered.the-variants.{Upto}
 

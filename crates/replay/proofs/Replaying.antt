@@ -17,7 +17,7 @@ use Rattle.print.proofs.WrittenLaws.{take-written, written-as}
 use Rattle.lines.specs.Texts.{before, FirstAt, textOf, textIn}
 use Rattle.lines.specs.declared.LineText.{LineText}
 use Rattle.lines.specs.declared.LineText.the-variants.{Text, Malformed}
-use Rattle.answers.specs.Room.{lineBytes}
+use Rattle.lines.specs.Room.{lineBytes}
 use Rattle.answers.specs.SplitLines.{splitLine}
 use Rattle.answers.proofs.SplitLaws.{part-most}
 use Rattle.replay.specs.Answers.{onRead, answerBy, answerOf, AnsweredIn, Replayed, nothing, line, Stopped}

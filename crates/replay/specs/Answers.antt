@@ -11,9 +11,9 @@ use Rattle.print.specs.Decimal.{Written}
 use Rattle.print.specs.Lines.{lineFeed}
 use Rattle.lines.specs.LentText.{_>>=_, lentIn}
 use Rattle.lines.specs.Texts.{before, textOf}
-use Rattle.answers.specs.DrawingLines.{drawingLines}
+use Rattle.drawings.specs.DrawingLines.{drawingLines}
 use Rattle.answers.specs.LentLines.{lentLines}
-use Rattle.answers.specs.Room.{lineBytes}
+use Rattle.lines.specs.Room.{lineBytes}
 use Rattle.answers.specs.SplitLines.{splitLine}
 use Rattle.replay.specs.Kinds.{kindOf, wordOf, restOf}
 use Rattle.replay.specs.declared.Answered.{Answered}

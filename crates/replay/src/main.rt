@@ -1,6 +1,6 @@
 // Lines on standard input, each a kind, a count of bytes and the bytes. Prints what the port answers to each, as
 // the judge of the Rust prints it: `split` is a text for the value split, `drawing` a sheet, `plane` a lent plane.
-use answers::LINE_BYTES;
+use lines::LINE_BYTES;
 use lines::LentLists;
 use lines::LineText;
 use model::limits::TEXT_BYTES;
@@ -9,7 +9,7 @@ ghost use Prim.Native.Nat.{_+_, _-_, _≤_};
 ghost use lib.ListN.{length, take, drop};
 ghost use Rattle.model.specs.Limits.{textBytes};
 ghost use Rattle.lines.specs.LentText.{lentIn};
-ghost use Rattle.answers.specs.Room.{lineBytes};
+ghost use Rattle.lines.specs.Room.{lineBytes};
 ghost use Rattle.replay.specs.Kinds.{kindOf};
 ghost use Rattle.replay.specs.Answers.{splitAnswer, drawingAnswer, lentAnswer, planeAnswer, answerOf, AnsweredIn, Replayed, Stopped};
 
@@ -42,7 +42,7 @@ fn answer_drawing(line: &[u8], text: &mut [u8], out: &mut [u8], at: usize) -> An
     ensures { λ r. ⌜ AnsweredIn r (drawingAnswer textBytes (now (line .entry))) (now (out .entry)) (now (out .exit)) at ⌝ }
 {
     match lines::read_text(line, text) {
-        LineText::Text(n) => Answered::Upto(answers::put_drawing(out, at, &text[0..n])),
+        LineText::Text(n) => Answered::Upto(drawings::put_drawing(out, at, &text[0..n])),
         LineText::Malformed => Answered::NoText,
     }
 }

@@ -1,7 +1,7 @@
 -- `replay::answer_drawing` meets its contract.
 use mathlib.Core.Path.{refl}
 use Rattle.lines.proofs.Reading.{within}
-use Rattle.answers.specs.DrawingLines.{drawingLines}
+use Rattle.drawings.specs.DrawingLines.{drawingLines}
 use Rattle.replay.proofs.Replaying.{answered-text, answered-none}
 use native.Mathlib.Omega.{arith}
 use borrow.Author.Needs.{needs}

@@ -1,10 +1,10 @@
--- `answers::put_step` meets its contract.
+-- `drawings::put_step` meets its contract.
 use Rattle.print.proofs.WrittenLaws.{written-as, written-within}
-use Rattle.answers.proofs.DrawingLaws.{made-lines, not-made, made-fits}
+use Rattle.drawings.proofs.DrawingLaws.{made-lines, not-made, made-fits}
 use native.Mathlib.Omega.{arith}
 use borrow.Author.Needs.{needs}
-use Rattle.answers.proofs.put_step.Statement.{statement}
-use Rattle.answers.proofs.put_step.Tie as tie
+use Rattle.drawings.proofs.put_step.Statement.{statement}
+use Rattle.drawings.proofs.put_step.Tie as tie
 
 slice-aggregate-make-plane : tie.Need-slice-aggregate-make-plane
 slice-aggregate-make-plane c = search needs

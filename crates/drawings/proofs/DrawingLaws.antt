@@ -36,7 +36,7 @@ use Rattle.step.specs.declared.PlaneMade.the-variants.{Made, NotMade}
 use Rattle.print.specs.Lines.{refusedLine}
 use Rattle.print.specs.Planes.{planeLines}
 use Rattle.print.specs.Drawings.{layersLines, countedLines, nameLine, Layer, Texts, Regions}
-use Rattle.answers.specs.DrawingLines.{planePrinted, regionsLines, drawingLines}
+use Rattle.drawings.specs.DrawingLines.{planePrinted, regionsLines, drawingLines}
 
 drawn-fits : (rs : List (List ℕ)) (o : Outline) → drawingOf rs ≡ ok o → fits rs ≡ true
 unfolding drawingBy sizeOf

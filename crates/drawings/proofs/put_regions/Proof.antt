@@ -1,10 +1,10 @@
--- `answers::put_regions` meets its contract.
+-- `drawings::put_regions` meets its contract.
 use Rattle.print.proofs.WrittenLaws.{written-then, written-as, written-within}
-use Rattle.answers.proofs.DrawingLaws.{read-lines, not-read, read-texts, read-few, read-regions, step-room}
+use Rattle.drawings.proofs.DrawingLaws.{read-lines, not-read, read-texts, read-few, read-regions, step-room}
 use native.Mathlib.Omega.{arith}
 use borrow.Author.Needs.{needs}
-use Rattle.answers.proofs.put_regions.Statement.{statement}
-use Rattle.answers.proofs.put_regions.Tie as tie
+use Rattle.drawings.proofs.put_regions.Statement.{statement}
+use Rattle.drawings.proofs.put_regions.Tie as tie
 
 slice-aggregate-read-regions : tie.Need-slice-aggregate-read-regions
 slice-aggregate-read-regions c = search needs

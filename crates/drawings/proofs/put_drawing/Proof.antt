@@ -1,10 +1,10 @@
--- `answers::put_drawing` meets its contract.
+-- `drawings::put_drawing` meets its contract.
 use Rattle.print.proofs.WrittenLaws.{written-then, written-as, written-within}
-use Rattle.answers.proofs.DrawingLaws.{drawn-layer, drawn-lines, not-drawn}
+use Rattle.drawings.proofs.DrawingLaws.{drawn-layer, drawn-lines, not-drawn}
 use native.Mathlib.Omega.{arith}
 use borrow.Author.Needs.{needs}
-use Rattle.answers.proofs.put_drawing.Statement.{statement}
-use Rattle.answers.proofs.put_drawing.Tie as tie
+use Rattle.drawings.proofs.put_drawing.Statement.{statement}
+use Rattle.drawings.proofs.put_drawing.Tie as tie
 
 slice-aggregate-draw-sheet : tie.Need-slice-aggregate-draw-sheet
 slice-aggregate-draw-sheet c = search needs

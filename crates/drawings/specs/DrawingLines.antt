@@ -27,6 +27,10 @@ abbrev pub regionsLines : Outline → Picture → ℕ → ℕ → Reading Region
 regionsLines o grid w h (ok g) = countedLines (g .rects) (g .texts) ++ (nameLine (o .named) (g .texts) ++ planePrinted (planeOf o (g .rects) grid w h))
 regionsLines o grid w h (refused r) = refusedLine (numbers r)
 
+-- room for them
+abbrev pub regionsBytes : ℕ
+regionsBytes = 297342
+
 -- the layers, the regions and the plane of some rows whose outline is known; or why they have none
 abbrev pub drawnLines : List (List ℕ) → Reading Outline → List ℕ
 drawnLines rs (ok o) =
