@@ -1,7 +1,6 @@
 -- Examples: numbers and texts as the judge prints them.
-use mathlib.Core.List.{List, [], _∷_}
+use mathlib.Core.List.{[], _∷_}
 use mathlib.Core.Path.{_≡_, refl}
-use Prim.Native.Nat.{ℕ}
 use Rattle.print.specs.Decimal.{widthBy, decimal, spaced, listed}
 
 -- 61440

@@ -2,19 +2,18 @@
 use mathlib.Core.Path.{_≡_, refl, sym, ap, subst, _∙_}
 use mathlib.Core.Bool.{true}
 use mathlib.Core.List.{List, _++_}
-use Prim.Native.Nat.{ℕ, _+_, _*_, _≤_, _<_}
+use Prim.Native.Nat.{ℕ, _+_, _*_, _≤_}
 use native.Mathlib.Omega.{arith}
 use lib.ListN.{length}
 use Rattle.lists.specs.Answer.{ok, refused}
 use Rattle.lists.specs.Picture.{canvas}
 use Rattle.lists.proofs.AnswerLaws.{refused-ok}
 use Rattle.lists.proofs.Tests.{by-flag}
-use Rattle.model.specs.Limits.{canvasRows, canvasColumns, canvasSize, regionCount, textBytes}
+use Rattle.model.specs.Limits.{canvasSize, regionCount, textBytes}
 use Rattle.model.specs.Refusals.{Reading, numbers}
 use Rattle.model.specs.declared.Refusal.{Refusal}
 use Rattle.outline.specs.declared.Outline.{Outline}
 use Rattle.scan.specs.Canvas.{rowsAt, fits, sizeOf}
-use Rattle.scan.specs.Rows.{widest}
 use Rattle.scan.proofs.Answers.{fits-size}
 use Rattle.unicode.specs.Utf8.{checked}
 use Rattle.unicode.specs.declared.Checked.{Checked}

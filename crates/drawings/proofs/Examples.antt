@@ -1,7 +1,6 @@
 -- Example: a plane as the judge prints it.
-use mathlib.Core.List.{List, [], _∷_, _++_}
+use mathlib.Core.List.{[], _∷_, _++_}
 use mathlib.Core.Path.{_≡_, refl}
-use Prim.Native.Nat.{ℕ}
 use Rattle.model.specs.declared.Cell.the-variants.{Region, VerticalOutputDoubleLine}
 use Rattle.print.specs.Decimal.{widthBy, spaced, listed}
 use Rattle.print.specs.Lines.{lineFeed, countLine}

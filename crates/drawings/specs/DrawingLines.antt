@@ -5,7 +5,6 @@ use lib.ListN.{length}
 use Rattle.lists.specs.Answer.{ok, refused}
 use Rattle.lists.specs.Picture.{Picture}
 use Rattle.model.specs.Refusals.{Reading, numbers}
-use Rattle.model.specs.declared.Rect.{Rect}
 use Rattle.cells.specs.Plane.{Plane}
 use Rattle.outline.specs.declared.Outline.{Outline}
 use Rattle.scan.specs.Canvas.{rowsAt}

@@ -1,8 +1,7 @@
 -- Examples: a text and a lent plane as the judge has them.
-use mathlib.Core.List.{List, [], _∷_}
-use mathlib.Core.Option.{Option, some}
+use mathlib.Core.List.{[], _∷_}
+use mathlib.Core.Option.{some}
 use mathlib.Core.Path.{_≡_, refl}
-use Prim.Native.Nat.{ℕ}
 use Rattle.model.specs.RuleNumbers.{numberOf, digits}
 use Rattle.lines.specs.LentText.{counted, lentIn}
 use Rattle.lines.specs.Texts.{before, bytesIn, textOf}

@@ -3,13 +3,13 @@ use mathlib.Core.Bool.{Bool, true, false}
 use mathlib.Core.Option.{Option, none, some}
 use mathlib.Core.Path.{_≡_, refl, sym, ap, subst, _∙_}
 use mathlib.Core.List.{List, [], _∷_, _++_, append-assoc, append-nil}
-use Prim.Native.Nat.{ℕ, zero, suc, _+_, _-_, _≤_, _<_}
+use Prim.Native.Nat.{ℕ, suc, _+_, _-_, _≤_, _<_}
 use native.Mathlib.Numerals.{add-one}
 use native.Mathlib.Omega.{arith}
-use borrow.Author.Tests.{le-leb, lt-leb, eq-eqb, ne-eqb, eqb-true, eqb-false, leb-true}
+use borrow.Author.Tests.{le-leb, lt-leb, eqb-true, eqb-false, leb-true}
 use lib.Dec.{eqb, leb}
-use lib.ListN.{length, getD, take, drop, set, length-set, drop-of-length-le}
-use lib.Seq.{take-suc-set, length-take-le, drop-drop, take-all}
+use lib.ListN.{length, take, drop, set, length-set, drop-of-length-le}
+use lib.Seq.{take-suc-set, length-take-le, drop-drop}
 use Rattle.lists.proofs.Parts.{at-cons}
 use Rattle.lists.proofs.Tests.{by-flag}
 use Rattle.model.specs.RuleNumbers.{numberOf, numberFound}

@@ -1,14 +1,14 @@
 -- A text that is written as its count of bytes and the bytes is read back: the two definitions undo one another.
-use mathlib.Core.Bool.{Bool, true, false, _&&_}
+use mathlib.Core.Bool.{true}
 use mathlib.Core.List.{List, [], _∷_, _++_}
-use mathlib.Core.Option.{Option, none, some}
-use mathlib.Core.Path.{_≡_, refl, sym, ap, _∙_}
+use mathlib.Core.Option.{none, some}
+use mathlib.Core.Path.{_≡_, refl, ap, _∙_}
 use Prim.Native.Nat.{ℕ, zero, suc, _+_, _-_, _*_, _/_, _%_, _^_, _≤_, _<_}
 use native.Mathlib.Nat.{pow-suc}
 use native.Mathlib.Omega.{arith}
-use borrow.Author.Tests.{lt-ltb, le-ltb, le-leb, ne-eqb, leb-true}
-use lib.Dec.{eqb, leb, ltb}
-use lib.ListN.{length, drop}
+use borrow.Author.Tests.{lt-ltb, le-leb, ne-eqb, leb-true}
+use lib.Dec.{leb, ltb}
+use lib.ListN.{length}
 use lib.Seq.{drop-append-seam}
 use Rattle.io.specs.Digits.{glyph, digits}
 use Rattle.lists.proofs.Tests.{by-flag, both}

@@ -3,7 +3,7 @@ use mathlib.Core.Path.{_≡_, refl, sym, ap, subst, _∙_}
 use mathlib.Core.Bool.{Bool, true, false}
 use mathlib.Core.List.{List, [], _∷_, _++_}
 use mathlib.Core.Logic.{inl, inr}
-use mathlib.Core.Option.{Option, none, some}
+use mathlib.Core.Option.{Option, none}
 use Prim.Native.Nat.{ℕ, suc, _+_, _-_, _≤_, _<_}
 use native.Mathlib.Omega.{arith}
 use lib.ListN.{length, take, drop, drop-of-length-le}
@@ -21,7 +21,7 @@ use Rattle.lines.specs.Room.{lineBytes}
 use Rattle.answers.specs.SplitLines.{splitLine}
 use Rattle.answers.proofs.SplitLaws.{part-most}
 use Rattle.replay.specs.Answers.{onRead, answerBy, answerOf, AnsweredIn, Replayed, nothing, line, Stopped}
-use Rattle.replay.specs.Kinds.{kindOf, wordOf, restOf}
+use Rattle.replay.specs.Kinds.{kindOf, wordOf}
 use Rattle.replay.specs.declared.Answered.{Answered}
 use Rattle.replay.specs.declared.Answered.the-variants.{Upto, NoText}
 use Rattle.replay.specs.declared.Kind.{Kind}

@@ -2,7 +2,6 @@
 use mathlib.Core.Path.{ap}
 use Rattle.answers.specs.SplitLines.{printed, splitLine}
 use Rattle.print.proofs.WrittenLaws.{written-as}
-use native.Mathlib.Omega.{arith}
 use borrow.Author.Needs.{needs}
 use Rattle.answers.proofs.put_split_line.Statement.{statement}
 use Rattle.answers.proofs.put_split_line.Tie as tie

@@ -1,12 +1,9 @@
 -- `lines::small_number` meets its contract.
-use mathlib.Core.Path.{sym, _∙_}
 use native.Mathlib.Omega.{arith}
 use borrow.Author.Needs.{needs}
 use Rattle.lines.proofs.Reading.{number-small, number-large, no-number}
 use Rattle.lines.proofs.small_number.Statement.{statement}
 use Rattle.lines.proofs.small_number.Tie as tie
-use Rattle.lines.proofs.small_number.Reads as reads
-use Rattle.lines.proofs.small_number.Lts as lts
 
 rule-number-requires : tie.Need-rule-number-requires
 rule-number-requires c κs = search needs
