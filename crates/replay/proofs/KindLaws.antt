@@ -8,7 +8,6 @@ use borrow.Author.Tests.{eqb-true, eq-eqb}
 use Rattle.lists.proofs.Tests.{by-flag, both, true-false}
 use Rattle.model.specs.Policies.{sameText}
 use Rattle.replay.specs.Kinds.{splitWord, drawingWord, planeWord, kindOf}
-use Rattle.replay.specs.declared.Kind.{Kind}
 use Rattle.replay.specs.declared.Kind.the-variants.{Split, Drawing, Plane, Unknown}
 
 same-self : (s : List ℕ) → sameText s s ≡ true

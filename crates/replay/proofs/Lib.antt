@@ -1,10 +1,5 @@
--- Laws of texts and answers as the judge has them.
-pub mod Finding
-pub mod Reading
+-- Laws of lines that are answered.
 pub mod Shifting
-pub mod DrawingLaws
-pub mod LentLaws
 pub mod KindLaws
+pub mod LentLaws
 pub mod Replaying
-pub mod Examples
-pub mod RoundTrip

@@ -3,51 +3,29 @@ use mathlib.Core.Path.{_≡_, refl, sym, ap, subst, _∙_}
 use mathlib.Core.Bool.{Bool, true, false}
 use mathlib.Core.List.{List, [], _∷_, _++_}
 use mathlib.Core.Logic.{inl, inr}
-use mathlib.Core.Option.{Option, none, some}
+use mathlib.Core.Option.{Option, none}
 use Prim.Native.Nat.{ℕ, suc, _+_, _-_, _≤_, _<_}
 use native.Mathlib.Omega.{arith}
-use lib.ListN.{length, getD, take, drop, length-take, length-drop, drop-of-length-le}
+use lib.ListN.{length, take, drop, drop-of-length-le}
 use lib.Seq.{take-add, length-take-le}
 use Rattle.lists.proofs.Parts.{at-cons, part-add, part-end}
-use Rattle.utils.specs.Split.{answered, Places}
-use Rattle.utils.specs.declared.Split.{Split}
-use Rattle.utils.specs.declared.Split.the-variants.{Own, Rewritten, NotSplit}
-use Rattle.print.specs.Decimal.{Written}
-use Rattle.print.specs.Lines.{blank, lineFeed, valuesLine}
-use Rattle.replay.specs.Kinds.{kindOf, wordOf, restOf}
-use Rattle.replay.specs.Texts.{before, FirstAt, textOf, textIn, TextWithin}
 use Rattle.model.specs.Limits.{textBytes}
-use Rattle.replay.specs.Answers.{lineBytes, printed, splitLine, onRead, answerBy, answerOf, AnsweredIn, Replayed, nothing, line, Stopped}
-use Rattle.replay.specs.declared.LineText.{LineText}
-use Rattle.replay.specs.declared.LineText.the-variants.{Text, Malformed}
+use Rattle.model.specs.RuleNumbers.{numberOf}
+use Rattle.print.specs.Decimal.{Written}
+use Rattle.print.specs.Lines.{blank, lineFeed}
+use Rattle.print.proofs.WrittenLaws.{take-written, written-as}
+use Rattle.lines.specs.Texts.{before, FirstAt, textOf, textIn}
+use Rattle.lines.specs.declared.LineText.{LineText}
+use Rattle.lines.specs.declared.LineText.the-variants.{Text, Malformed}
+use Rattle.lines.specs.Room.{lineBytes}
+use Rattle.answers.specs.SplitLines.{splitLine}
+use Rattle.answers.proofs.SplitLaws.{part-most}
+use Rattle.replay.specs.Answers.{onRead, answerBy, answerOf, AnsweredIn, Replayed, nothing, line, Stopped}
+use Rattle.replay.specs.Kinds.{kindOf, wordOf}
 use Rattle.replay.specs.declared.Answered.{Answered}
 use Rattle.replay.specs.declared.Answered.the-variants.{Upto, NoText}
 use Rattle.replay.specs.declared.Kind.{Kind}
 use Rattle.replay.specs.declared.Kind.the-variants.{Split as SplitKind, Drawing, Plane, Unknown}
-use Rattle.model.specs.RuleNumbers.{numberOf}
-use Rattle.print.proofs.WrittenLaws.{take-written, written-as}
-
--- the places of a rewritten text
-pub places : (s : Split) (t d : List ℕ) {n from to : ℕ} → Places s t d → s ≡ Rewritten n from to → (n ≤ length d) × (from ≤ to) × (to ≤ length t)
-places s t d {n} {from} {to} p e =
-    let q : Places (Rewritten n from to) t d = subst (λ (s : Split). Places s t d) e p in
-    (q .0, q .1 .1 .0, q .1 .1 .1)
-
-pub printed-values : (s : Split) (t d : List ℕ) {n from to : ℕ} → s ≡ Rewritten n from to
-    → valuesLine (take (n - 0) (drop 0 d)) (take (to - from) (drop from t)) ≡ printed (answered s t d)
-printed-values s t d {n} {from} {to} e =
-    let z : n - 0 ≡ n = omega arith in
-    ap (λ (k : ℕ). valuesLine (take k d) (take (to - from) (drop from t))) z ∙ sym (ap (λ (s : Split). printed (answered s t d)) e)
-
-part-most : (n f : ℕ) (l : List ℕ) → length (take n (drop f l)) ≤ length l
-part-most n f l = simp (length-take, length-drop) (omega arith)
-
-pub parts-most : (s : Split) (t d : List ℕ) {n from to : ℕ} → s ≡ Rewritten n from to
-    → (length (take (n - 0) (drop 0 d)) ≤ length d) × (length (take (to - from) (drop from t)) ≤ length t)
-parts-most s t d {n} {from} {to} e = (part-most (n - 0) 0 d, part-most (to - from) from t)
-
-pub within : (r : LineText) (d : List ℕ) {n : ℕ} → TextWithin r d → r ≡ Text n → n ≤ length d
-within r d {n} w e = subst (λ (r : LineText). TextWithin r d) e w
 
 -- a text that is answered, and one that is absent
 module _ (line t : List ℕ) (f : LineText) (most : ℕ) (e : textOf most line ≡ textIn f t) (h : most ≡ textBytes) (g : List ℕ → List ℕ) where

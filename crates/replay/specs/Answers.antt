@@ -6,41 +6,20 @@ use mathlib.Core.Option.{Option, none, some}
 use mathlib.Core.Path.{_≡_}
 use Prim.Native.Nat.{ℕ, _+_, _<_}
 use lib.ListN.{length, drop}
-use Rattle.lists.specs.Answer.{ok, refused}
-use Rattle.model.specs.Refusals.{Reading, numbers}
 use Rattle.lent.specs.LentPlane.{LentPlane}
-use Rattle.utils.specs.Split.{Values, splitOf}
 use Rattle.print.specs.Decimal.{Written}
-use Rattle.print.specs.Lines.{lineFeed, valuesLine, refusedLine}
-use Rattle.replay.specs.DrawingLines.{drawingLines}
-use Rattle.replay.specs.LentLines.{_>>=_, lentIn, lentLines}
+use Rattle.print.specs.Lines.{lineFeed}
+use Rattle.lines.specs.LentText.{_>>=_, lentIn}
+use Rattle.lines.specs.Texts.{before, textOf}
+use Rattle.drawings.specs.DrawingLines.{drawingLines}
+use Rattle.answers.specs.LentLines.{lentLines}
+use Rattle.lines.specs.Room.{lineBytes}
+use Rattle.answers.specs.SplitLines.{splitLine}
 use Rattle.replay.specs.Kinds.{kindOf, wordOf, restOf}
-use Rattle.replay.specs.Texts.{before, textOf}
 use Rattle.replay.specs.declared.Answered.{Answered}
 use Rattle.replay.specs.declared.Answered.the-variants.{Upto, NoText}
 use Rattle.replay.specs.declared.Kind.{Kind}
 use Rattle.replay.specs.declared.Kind.the-variants.{Split, Drawing, Plane, Unknown}
-
--- room for every answer: layers, regions and plane of a drawing take most
-abbrev pub lineBytes : ℕ
-lineBytes = 550000
-
--- "own" and a line feed
-abbrev pub ownLine : List ℕ
-ownLine = 0x6F ∷ 0x77 ∷ 0x6E ∷ lineFeed ∷ []
-
-abbrev pub printedBy : List ℕ → Option (List ℕ) → List ℕ
-printedBy allowed none = ownLine
-printedBy allowed (some bare) = valuesLine allowed bare
-
--- the line that is printed for what the split answers
-abbrev pub printed : Reading Values → List ℕ
-printed (ok v) = printedBy (v .allowed) (v .default)
-printed (refused r) = refusedLine (numbers r)
-
--- the line that is printed for a text, with a scratch slice of so many bytes
-unfoldable pub splitLine : ℕ → List ℕ → List ℕ
-splitLine room text = printed (splitOf text room)
 
 -- the answer to a text that may be absent
 abbrev pub onRead : Option (List ℕ) → (List ℕ → List ℕ) → Option (List ℕ)

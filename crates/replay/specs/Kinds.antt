@@ -5,7 +5,7 @@ use lib.ListN.{length, drop}
 use Rattle.lists.specs.Choose.{choose}
 use Rattle.model.specs.Policies.{sameText}
 use Rattle.print.specs.Lines.{blank}
-use Rattle.replay.specs.Texts.{before}
+use Rattle.lines.specs.Texts.{before}
 use Rattle.replay.specs.declared.Kind.{Kind}
 use Rattle.replay.specs.declared.Kind.the-variants.{Split, Drawing, Plane, Unknown}
 

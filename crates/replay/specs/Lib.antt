@@ -1,5 +1,2 @@
-pub mod Texts
 pub mod Kinds
-pub mod DrawingLines
-pub mod LentLines
 pub mod Answers

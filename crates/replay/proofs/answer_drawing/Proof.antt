@@ -1,7 +1,8 @@
 -- `replay::answer_drawing` meets its contract.
 use mathlib.Core.Path.{refl}
-use Rattle.replay.specs.DrawingLines.{drawingLines}
-use Rattle.replay.proofs.Replaying.{within, answered-text, answered-none}
+use Rattle.lines.proofs.Reading.{within}
+use Rattle.drawings.specs.DrawingLines.{drawingLines}
+use Rattle.replay.proofs.Replaying.{answered-text, answered-none}
 use native.Mathlib.Omega.{arith}
 use borrow.Author.Needs.{needs}
 use Rattle.replay.proofs.answer_drawing.Statement.{statement}

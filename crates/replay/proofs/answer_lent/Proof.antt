@@ -1,7 +1,8 @@
 -- `replay::answer_lent` meets its contract.
 use mathlib.Core.Path.{refl}
 use Rattle.print.proofs.WrittenLaws.{written-within}
-use Rattle.replay.proofs.LentLaws.{lent-answered, lent-none, lists-fit}
+use Rattle.lines.proofs.LentTextLaws.{lists-fit}
+use Rattle.replay.proofs.LentLaws.{lent-answered, lent-none}
 use native.Mathlib.Omega.{arith}
 use borrow.Author.Needs.{needs}
 use Rattle.replay.proofs.answer_lent.Statement.{statement}

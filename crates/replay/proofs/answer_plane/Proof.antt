@@ -1,6 +1,7 @@
 -- `replay::answer_plane` meets its contract.
 use mathlib.Core.Path.{refl}
-use Rattle.replay.proofs.Replaying.{within, answered-as}
+use Rattle.lines.proofs.Reading.{within}
+use Rattle.replay.proofs.Replaying.{answered-as}
 use Rattle.replay.proofs.LentLaws.{plane-is, no-plane}
 use native.Mathlib.Omega.{arith}
 use borrow.Author.Needs.{needs}

@@ -1,8 +1,9 @@
 -- `replay::answer_split` meets its contract.
 use mathlib.Core.Path.{refl, _∙_}
 use Rattle.model.specs.Limits.{textBytes}
-use Rattle.replay.specs.Answers.{splitLine}
-use Rattle.replay.proofs.Replaying.{within, text-fits, answered-text, answered-none, split-line}
+use Rattle.lines.proofs.Reading.{within}
+use Rattle.answers.specs.SplitLines.{splitLine}
+use Rattle.replay.proofs.Replaying.{text-fits, answered-text, answered-none, split-line}
 use native.Mathlib.Omega.{arith}
 use borrow.Author.Needs.{needs}
 use Rattle.replay.proofs.answer_split.Statement.{statement}

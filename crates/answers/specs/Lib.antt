@@ -1,0 +1,2 @@
+pub mod SplitLines
+pub mod LentLines

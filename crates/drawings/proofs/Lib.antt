@@ -1,0 +1,3 @@
+-- Laws of what is printed for sheets.
+pub mod DrawingLaws
+pub mod Examples

@@ -1,0 +1,7 @@
+-- Laws of the lines of the input.
+pub mod Finding
+pub mod Reading
+pub mod RoundTrip
+pub mod LentTextLaws
+pub mod Widening
+pub mod Examples
