@@ -136,7 +136,8 @@ module _ (rs : List (List ℕ)) (o : Outline) (t : TextPlane) (e : drawnPlaneBy 
   abbrev h : ℕ
   h = length rs
 
-  read : (g : Regions) × (regionTextsOf (textLayer rs) (thinLayer rs) w h ≡ ok g) × (planeOf o (g .rects) (gridLayer rs (o .body)) w h ≡ ok (t .plane)) × (g .texts ≡ t .texts)
+  -- the regions with their texts, and the plane, that were read
+  pub read : (g : Regions) × (regionTextsOf (textLayer rs) (thinLayer rs) w h ≡ ok g) × (planeOf o (g .rects) (gridLayer rs (o .body)) w h ≡ ok (t .plane)) × (g .texts ≡ t .texts)
   unfolding textPlaneBy
   read =
       let g = then-ok (regionTextsOf (textLayer rs) (thinLayer rs) w h) _ t e in
@@ -144,7 +145,7 @@ module _ (rs : List (List ℕ)) (o : Outline) (t : TextPlane) (e : drawnPlaneBy 
       let z : record { plane = P .0; texts = g .0 .texts } ≡ t = let q = P .2 in cc in
       (g .0, g .1, P .1 ∙ ap (λ (x : TextPlane). ok (x .plane)) z, ap (λ (x : TextPlane). x .texts) z)
 
-  gathered : (regionsOf (thinLayer rs) w h ≡ ok (read .0 .rects)) × (textsOf (textLayer rs) (read .0 .rects) ≡ ok (read .0 .texts))
+  pub gathered : (regionsOf (thinLayer rs) w h ≡ ok (read .0 .rects)) × (textsOf (textLayer rs) (read .0 .rects) ≡ ok (read .0 .texts))
   unfolding regionTextsBy
   gathered =
       let a = then-ok (regionsOf (thinLayer rs) w h) _ (read .0) (read .1) in

@@ -23,27 +23,26 @@ use Rattle.cells.specs.Spans.{offsetAt, lengthAt, textAt, textsIn}
 use Rattle.outline.specs.Outline.{searchOf, namedBy, namedOf, tableOf, outlineBy, outlineOf, bodyOf}
 use Rattle.outline.specs.declared.Outline.{Outline}
 use Rattle.regions.specs.Rects.{Layer}
-use Rattle.regions.specs.Regions.{regionsOf}
 use Rattle.scan.specs.Canvas.{rowsAt, fits, sizeOf}
 use Rattle.scan.specs.Rows.{widest}
 use Rattle.scan.proofs.Answers.{fits-size}
-use Rattle.step.specs.PlaneStep.{planeOf}
-use Rattle.texts.specs.RegionText.{textOf, textsOf, packed}
+use Rattle.texts.specs.RegionText.{textOf}
+use Rattle.texts.proofs.TextsLaws.{texts-are}
 use Rattle.unicode.specs.Utf8.{checked}
 use Rattle.unicode.specs.declared.Checked.{Checked}
 use Rattle.unicode.specs.declared.Checked.the-variants.{Valid, Invalid}
 use Rattle.walks.specs.Frame.{frameOf}
 use Rattle.walks.specs.Kinds as kind
 use Rattle.canvas.specs.Drawn.{Shown}
-use Rattle.canvas.specs.DrawnPlane.{textPlaneBy, textPlaneOf, PlaneRoom}
-use Rattle.canvas.specs.Layers.{textLayer, thinLayer, gridLayer, drawingBy, drawingOf, sheetBy, sheetOf}
-use Rattle.canvas.specs.RegionTexts.{Regions, regionTextsBy, regionTextsOf}
+use Rattle.canvas.specs.DrawnPlane.{textPlaneOf, PlaneRoom}
+use Rattle.canvas.specs.Layers.{textLayer, drawingBy, drawingOf, sheetBy, sheetOf}
 use Rattle.canvas.proofs.NameIsFirstRegion.{name-is-first-region}
 use Rattle.recognizer.specs.StatedPolicy.{statedPolicy}
 use Rattle.recognizer.specs.Told.{tableRead}
 use Rattle.tables.specs.NamedTable.{nameOf, NameIn}
 use Rattle.policies.specs.DrawnPolicy.{drawnPlaneBy, nameBy, policyBy, walkedPolicy}
 use Rattle.policies.specs.LentPolicy.{textIn}
+use Rattle.policies.proofs.DrawnWithin.{read, gathered}
 use Rattle.sources.specs.DrawnTable.{NamedPlane, namedPlane}
 
 -- a sheet that is drawn fits the canvas
@@ -81,12 +80,6 @@ outline-frame p w h o e n =
     let z : c .0 ≡ true = ap (λ (x : Outline). x .named) (ok-same (f .2)) ∙ n in
     named-frame p w h (b .0 / w) (c .1 ∙ ap ok z)
 
-texts-are : (p : Picture) (rs : List Rect) (ts : List (List ℕ)) → textsOf p rs ≡ ok ts → ts ≡ map (textOf p) rs
-unfolding textsOf
-texts-are p rs ts e =
-    by-flag (ltb textBytes (length (packed (map (textOf p) rs)))) (λ t. refused-ok (rw t at e))
-    (λ t. sym (ok-same (rw t at e)))
-
 -- the name's frame, whose text is the first region's
 record NameFirst (rs : List (List ℕ)) (t : TextPlane) : Type 0 where
   frame : Rect
@@ -95,21 +88,18 @@ record NameFirst (rs : List (List ℕ)) (t : TextPlane) : Type 0 where
   texts : t .texts ≡ textOf (textLayer rs) frame ∷ others
 
 name-first : (rs : List (List ℕ)) (o : Outline) (t : TextPlane) → drawingOf rs ≡ ok o → o .named ≡ true → drawnPlaneBy frameOf rs o ≡ ok t → NameFirst rs t
-unfolding drawingBy textPlaneBy regionTextsBy sizeOf
+unfolding drawingBy sizeOf
 name-first rs o t e n f =
     let p = textLayer rs in
     let g = outline-frame p (widest rs) (length rs) o (rw (drawn-fits rs o e) at e) n in
-    let a = then-ok (regionTextsOf p (thinLayer rs) (widest rs) (length rs)) _ t f in
-    let b = then-ok (regionsOf (thinLayer rs) (widest rs) (length rs)) _ (a .0) (a .1) in
-    let c = then-ok (textsOf p (b .0)) _ (a .0) (b .2) in
-    let d = then-ok (planeOf o (a .0 .rects) (gridLayer rs (o .body)) (widest rs) (length rs)) _ t (a .2) in
-    let r = name-is-first-region p (widest rs) (length rs) (g .0) (g .1) (b .0) (b .1) in
-    let m : t .texts ≡ c .0 = sym (ap (λ (x : TextPlane). x .texts) (ok-same (d .2))) ∙ sym (ap (λ (x : Regions). x .texts) (ok-same (c .2))) in
+    let q = read rs o t f in
+    let a = gathered rs o t f in
+    let r = name-is-first-region p (widest rs) (length rs) (g .0) (g .1) (q .0 .rects) (a .0) in
     record {
       frame = g .0;
       found = g .1;
       others = map (textOf p) (r .0);
-      texts = m ∙ texts-are p (b .0) (c .0) (c .1) ∙ ap (map (textOf p)) (r .1);
+      texts = sym (q .3) ∙ sym (texts-are p (q .0 .rects) (q .0 .texts) (a .1) .1) ∙ ap (map (textOf p)) (r .1);
     }
 
 -- a drawing's name is its first region's text
