@@ -1,7 +1,7 @@
 // What is printed for a sheet and for a lent plane: the record's lines, or the refusal.
-use records::Outcome;
 use model::limits::CANVAS_SIZE;
 use model::limits::TEXT_BYTES;
+use records::Outcome;
 ghost use mathlib.Core.Path.{_≡_};
 ghost use Prim.Native.Nat.{_+_, _≤_};
 ghost use lib.ListN.{length};
