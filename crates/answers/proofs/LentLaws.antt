@@ -1,9 +1,7 @@
 -- From what a lent plane states to the lines that are printed.
 use mathlib.Core.List.{List}
 use mathlib.Core.Path.{_≡_, sym, ap, subst, _∙_}
-use Prim.Native.Nat.{ℕ, _+_, _-_}
-use native.Mathlib.Omega.{arith}
-use lib.ListN.{take}
+use Prim.Native.Nat.{ℕ}
 use Rattle.model.specs.Policies.{policyNumber, orientationNumber}
 use Rattle.model.specs.Refusals.{numbers}
 use Rattle.model.specs.declared.Refusal.{Refusal}
@@ -16,8 +14,6 @@ use Rattle.plane.specs.declared.StatedSheet.{StatedSheet}
 use Rattle.plane.specs.declared.StatedSheet.the-variants.{Upright, NotStated}
 use Rattle.print.specs.Lines.{refusedLine}
 use Rattle.print.specs.Planes.{uprightLines}
-use Rattle.lines.specs.LentText.{listAt, lentAt}
-use Rattle.lines.specs.declared.Ends.{Ends}
 use Rattle.answers.specs.LentLines.{sheetPrinted, lentLines}
 
 -- the numbers of an upright sheet, by other names
@@ -39,17 +35,3 @@ pub stated-fits : (m : StatedSheet) (d bytes spans : List ℕ) (n : ℕ) {s : St
 stated-fits m d bytes spans n {s} h k =
     let q : StatedHeld (Upright s) d bytes spans n = subst (λ (m : StatedSheet). StatedHeld m d bytes spans n) k h in
     q .fits
-
--- four lists in slices of their own
-pub lent-as : (e : Ends) (s rows regions offsets sizes : List ℕ) → take (e .rows - 2) rows ≡ listAt s 0 (e .rows)
-    → take (e .regions - (e .kinds + 2)) regions ≡ listAt s (e .kinds) (e .regions)
-    → take (e .offsets - (e .regions + 2)) offsets ≡ listAt s (e .regions) (e .offsets)
-    → take (e .sizes - (e .offsets + 2)) sizes ≡ listAt s (e .offsets) (e .sizes)
-    → lentLines (record { rows = take (e .rows - 2 - 0) rows; kinds = listAt s (e .rows) (e .kinds); regions = take (e .regions - (e .kinds + 2) - 0) regions; offsets = take (e .offsets - (e .regions + 2) - 0) offsets; sizes = take (e .sizes - (e .offsets + 2) - 0) sizes; bytes = listAt s (e .sizes) (e .bytes) })
-    ≡ lentLines (lentAt e s)
-lent-as e s rows regions offsets sizes a b c d =
-    let p : e .rows - 2 - 0 ≡ e .rows - 2 = omega arith in
-    let q : e .regions - (e .kinds + 2) - 0 ≡ e .regions - (e .kinds + 2) = omega arith in
-    let r : e .offsets - (e .regions + 2) - 0 ≡ e .offsets - (e .regions + 2) = omega arith in
-    let t : e .sizes - (e .offsets + 2) - 0 ≡ e .sizes - (e .offsets + 2) = omega arith in
-    rw (p, q, r, t, a, b, c, d)

@@ -1,8 +1,4 @@
 // What is printed for a text of the value split and for a lent plane, as the judge of the Rust prints it.
-use lines::Ends;
-use lines::PART_MOST;
-use lines::REGION_MOST;
-use lines::ROW_MOST;
 use plane::Stated;
 use plane::StatedSheet;
 use utils::Split;
@@ -14,7 +10,6 @@ ghost use Rattle.utils.specs.Split.{answered, Places};
 ghost use Rattle.cells.specs.Plane.{planeIn, PlaneFits};
 ghost use Rattle.print.specs.Decimal.{Written};
 ghost use Rattle.print.specs.Planes.{uprightLines, uprightBytes};
-ghost use Rattle.lines.specs.LentText.{lentAt, EndsFit};
 ghost use Rattle.lines.specs.Room.{lineBytes};
 ghost use Rattle.answers.specs.SplitLines.{printed, splitLine};
 ghost use Rattle.answers.specs.LentLines.{lentLines};
@@ -64,7 +59,7 @@ fn put_stated(out: &mut [u8], at: usize, s: Stated, upright: &[u32]) -> usize
 }
 
 // The upright sheet of a lent plane, or why there is none.
-fn put_upright_sheet(
+pub fn put_upright_sheet(
     out: &mut [u8],
     at: usize,
     rows: &[u32],
@@ -94,37 +89,4 @@ fn put_upright_sheet(
         StatedSheet::Upright(s) => put_stated(out, at, s, &upright),
         StatedSheet::NotStated(r) => print::put_refusal(out, at, r),
     }
-}
-
-// The answer to the lists of a lent plane in a text.
-pub fn put_lent(out: &mut [u8], at: usize, s: &[u8], e: Ends) -> usize
-    requires { ⌜ (at + uprightBytes ≤ length (now out)) × EndsFit e (now s) ⌝ }
-    ensures { λ r. ⌜ Written (now (out .entry)) (now (out .exit)) at (lentLines (lentAt e (now (s .entry)))) uprightBytes r ⌝ }
-{
-    let mut rows = [0u32; ROW_MOST];
-    let mut regions = [0u32; REGION_MOST];
-    let mut offsets = [0u32; PART_MOST];
-    let mut sizes = [0u32; PART_MOST];
-    lines::widen(s, 0, e.rows, &mut rows);
-    lines::widen(s, e.kinds, e.regions, &mut regions);
-    lines::widen(s, e.regions, e.offsets, &mut offsets);
-    lines::widen(s, e.offsets, e.sizes, &mut sizes);
-    let kinds_from = e.rows + 2;
-    let kinds_to = e.kinds;
-    let bytes_from = e.sizes + 2;
-    let bytes_to = e.bytes;
-    let row_count = e.rows - 2;
-    let region_count = e.regions - (e.kinds + 2);
-    let offset_count = e.offsets - (e.regions + 2);
-    let size_count = e.sizes - (e.offsets + 2);
-    put_upright_sheet(
-        out,
-        at,
-        &rows[0..row_count],
-        &s[kinds_from..kinds_to],
-        &regions[0..region_count],
-        &offsets[0..offset_count],
-        &sizes[0..size_count],
-        &s[bytes_from..bytes_to],
-    )
 }

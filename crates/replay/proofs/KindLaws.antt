@@ -7,8 +7,8 @@ use lib.Dec.{eqb}
 use borrow.Author.Tests.{eqb-true, eq-eqb}
 use Rattle.lists.proofs.Tests.{by-flag, both, true-false}
 use Rattle.model.specs.Policies.{sameText}
-use Rattle.replay.specs.Kinds.{splitWord, drawingWord, planeWord, kindOf}
-use Rattle.replay.specs.declared.Kind.the-variants.{Split, Drawing, Plane, Unknown}
+use Rattle.replay.specs.Kinds.{splitWord, drawingWord, planeWord, sheetWord, tableWord, kindOf}
+use Rattle.replay.specs.declared.Kind.the-variants.{Split, Drawing, Plane, Sheet, Table, Unknown}
 
 same-self : (s : List ℕ) → sameText s s ≡ true
 unfolding sameText
@@ -43,6 +43,16 @@ module _ (s : List ℕ) (e : sameText s splitWord ≡ false) (f : sameText s dra
   unfolding kindOf
   kind-plane g = rw (e, f, g)
 
-  pub kind-unknown : sameText s planeWord ≡ false → Unknown ≡ kindOf s
-  unfolding kindOf
-  kind-unknown g = rw (e, f, g)
+  module _ (g : sameText s planeWord ≡ false) where
+    pub kind-sheet : sameText s sheetWord ≡ true → Sheet ≡ kindOf s
+    unfolding kindOf
+    kind-sheet h = rw (e, f, g, h)
+
+    module _ (h : sameText s sheetWord ≡ false) where
+      pub kind-table : sameText s tableWord ≡ true → Table ≡ kindOf s
+      unfolding kindOf
+      kind-table i = rw (e, f, g, h, i)
+
+      pub kind-unknown : sameText s tableWord ≡ false → Unknown ≡ kindOf s
+      unfolding kindOf
+      kind-unknown i = rw (e, f, g, h, i)

@@ -25,7 +25,7 @@ use Rattle.replay.specs.Kinds.{kindOf, wordOf}
 use Rattle.replay.specs.declared.Answered.{Answered}
 use Rattle.replay.specs.declared.Answered.the-variants.{Upto, NoText}
 use Rattle.replay.specs.declared.Kind.{Kind}
-use Rattle.replay.specs.declared.Kind.the-variants.{Split as SplitKind, Drawing, Plane, Unknown}
+use Rattle.replay.specs.declared.Kind.the-variants.{Split as SplitKind, Drawing, Plane, Sheet, Table, Unknown}
 
 -- a text that is answered, and one that is absent
 module _ (line t : List ℕ) (f : LineText) (most : ℕ) (e : textOf most line ≡ textIn f t) (h : most ≡ textBytes) (g : List ℕ → List ℕ) where
@@ -65,6 +65,8 @@ module _ {line : List ℕ} {end : ℕ} (f : FirstAt line 0 blank end) where
   nothing-behind SplitKind = refl
   nothing-behind Drawing = refl
   nothing-behind Plane = refl
+  nothing-behind Sheet = refl
+  nothing-behind Table = refl
   nothing-behind Unknown = refl
 
   pub no-rest : end ≡ length line → answerOf textBytes line ≡ none

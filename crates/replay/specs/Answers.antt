@@ -7,19 +7,21 @@ use mathlib.Core.Path.{_≡_}
 use Prim.Native.Nat.{ℕ, _+_, _<_}
 use lib.ListN.{length, drop}
 use Rattle.lent.specs.LentPlane.{LentPlane}
+use Rattle.policies.specs.DrawnPolicy.{walkedPolicy}
 use Rattle.print.specs.Decimal.{Written}
 use Rattle.print.specs.Lines.{lineFeed}
 use Rattle.lines.specs.LentText.{_>>=_, lentIn}
 use Rattle.lines.specs.Texts.{before, textOf}
 use Rattle.drawings.specs.DrawingLines.{drawingLines}
-use Rattle.answers.specs.LentLines.{lentLines}
+use Rattle.lent_answers.specs.Lines.{linesBy}
 use Rattle.lines.specs.Room.{lineBytes}
 use Rattle.answers.specs.SplitLines.{splitLine}
+use Rattle.reports.specs.PolicyLines.{recordBytes, policyLines}
 use Rattle.replay.specs.Kinds.{kindOf, wordOf, restOf}
 use Rattle.replay.specs.declared.Answered.{Answered}
 use Rattle.replay.specs.declared.Answered.the-variants.{Upto, NoText}
 use Rattle.replay.specs.declared.Kind.{Kind}
-use Rattle.replay.specs.declared.Kind.the-variants.{Split, Drawing, Plane, Unknown}
+use Rattle.replay.specs.declared.Kind.the-variants.{Split, Drawing, Plane, Sheet, Table, Unknown}
 
 -- the answer to a text that may be absent
 abbrev pub onRead : Option (List ℕ) → (List ℕ → List ℕ) → Option (List ℕ)
@@ -33,18 +35,27 @@ splitAnswer room s = onRead (textOf room s) (splitLine room)
 abbrev pub drawingAnswer : ℕ → List ℕ → Option (List ℕ)
 drawingAnswer room s = onRead (textOf room s) drawingLines
 
--- the answer to the lists of a lent plane
-abbrev pub lentAnswer : Option LentPlane → Option (List ℕ)
-lentAnswer none = none
-lentAnswer (some l) = some (lentLines l)
+-- the lines of a sheet's record, or of its refusal
+abbrev pub sheetLines : List ℕ → List ℕ
+sheetLines s = policyLines recordBytes (walkedPolicy s)
 
-abbrev pub planeAnswer : ℕ → List ℕ → Option (List ℕ)
-planeAnswer room s = _>>=_ (textOf room s) (λ t. lentAnswer (lentIn t))
+abbrev pub sheetAnswer : ℕ → List ℕ → Option (List ℕ)
+sheetAnswer room s = onRead (textOf room s) sheetLines
+
+-- the answer to the lists of a lent plane: its record, if the flag asks for it, or its upright sheet
+abbrev pub lentAnswer : Bool → Option LentPlane → Option (List ℕ)
+lentAnswer is-table none = none
+lentAnswer is-table (some l) = some (linesBy is-table l)
+
+abbrev pub planeAnswer : Bool → ℕ → List ℕ → Option (List ℕ)
+planeAnswer is-table room s = _>>=_ (textOf room s) (λ t. lentAnswer is-table (lentIn t))
 
 abbrev pub answerBy : Kind → ℕ → List ℕ → Option (List ℕ)
 answerBy Split room s = splitAnswer room s
 answerBy Drawing room s = drawingAnswer room s
-answerBy Plane room s = planeAnswer room s
+answerBy Plane room s = planeAnswer false room s
+answerBy Sheet room s = sheetAnswer room s
+answerBy Table room s = planeAnswer true room s
 answerBy Unknown room s = none
 
 -- the answer to a line without its line feed, if it is none that is malformed

@@ -7,7 +7,7 @@ use Rattle.model.specs.Policies.{sameText}
 use Rattle.print.specs.Lines.{blank}
 use Rattle.lines.specs.Texts.{before}
 use Rattle.replay.specs.declared.Kind.{Kind}
-use Rattle.replay.specs.declared.Kind.the-variants.{Split, Drawing, Plane, Unknown}
+use Rattle.replay.specs.declared.Kind.the-variants.{Split, Drawing, Plane, Sheet, Table, Unknown}
 
 -- "split"
 abbrev pub splitWord : List ℕ
@@ -21,9 +21,20 @@ drawingWord = 0x64 ∷ 0x72 ∷ 0x61 ∷ 0x77 ∷ 0x69 ∷ 0x6E ∷ 0x67 ∷ []
 abbrev pub planeWord : List ℕ
 planeWord = 0x70 ∷ 0x6C ∷ 0x61 ∷ 0x6E ∷ 0x65 ∷ []
 
+-- "sheet"
+abbrev pub sheetWord : List ℕ
+sheetWord = 0x73 ∷ 0x68 ∷ 0x65 ∷ 0x65 ∷ 0x74 ∷ []
+
+-- "table"
+abbrev pub tableWord : List ℕ
+tableWord = 0x74 ∷ 0x61 ∷ 0x62 ∷ 0x6C ∷ 0x65 ∷ []
+
 -- what a word asks for
 unfoldable pub kindOf : List ℕ → Kind
-kindOf word = choose (sameText word splitWord) Split (choose (sameText word drawingWord) Drawing (choose (sameText word planeWord) Plane Unknown))
+kindOf word =
+    choose (sameText word splitWord) Split
+    (choose (sameText word drawingWord) Drawing
+    (choose (sameText word planeWord) Plane (choose (sameText word sheetWord) Sheet (choose (sameText word tableWord) Table Unknown))))
 
 -- a line's first word, and what stands behind it and a blank
 abbrev pub wordOf : List ℕ → List ℕ

@@ -1,5 +1,6 @@
 // Lines on standard input, each a kind, a count of bytes and the bytes. Prints what the port answers to each, as
-// the judge of the Rust prints it: `split` is a text for the value split, `drawing` a sheet, `plane` a lent plane.
+// the judge of the Rust prints it: `split` is a text for the value split, `drawing` a sheet, `plane` a lent plane; `sheet` and
+// `table` are a sheet and a lent plane whose record is asked for.
 use lines::LINE_BYTES;
 use lines::LentLists;
 use lines::LineText;
@@ -11,7 +12,7 @@ ghost use Rattle.model.specs.Limits.{textBytes};
 ghost use Rattle.lines.specs.LentText.{lentIn};
 ghost use Rattle.lines.specs.Room.{lineBytes};
 ghost use Rattle.replay.specs.Kinds.{kindOf};
-ghost use Rattle.replay.specs.Answers.{splitAnswer, drawingAnswer, lentAnswer, planeAnswer, answerOf, AnsweredIn, Replayed, Stopped};
+ghost use Rattle.replay.specs.Answers.{splitAnswer, drawingAnswer, sheetAnswer, lentAnswer, planeAnswer, answerOf, AnsweredIn, Replayed, Stopped};
 
 // What became of a line: its answer ends at an index, or it is malformed.
 pub enum Answered {
@@ -47,24 +48,35 @@ fn answer_drawing(line: &[u8], text: &mut [u8], out: &mut [u8], at: usize) -> An
     }
 }
 
+// The answer to what stands behind `sheet`.
+fn answer_sheet(line: &[u8], text: &mut [u8], out: &mut [u8], at: usize) -> Answered
+    requires { ⌜ (at + lineBytes ≤ length (now out)) × (length (now text) ≡ textBytes) ⌝ }
+    ensures { λ r. ⌜ AnsweredIn r (sheetAnswer textBytes (now (line .entry))) (now (out .entry)) (now (out .exit)) at ⌝ }
+{
+    match lines::read_text(line, text) {
+        LineText::Text(n) => Answered::Upto(reports::put_sheet(out, at, &text[0..n])),
+        LineText::Malformed => Answered::NoText,
+    }
+}
+
 // The answer to the bytes of a lent plane.
-fn answer_lent(s: &[u8], out: &mut [u8], at: usize) -> Answered
+fn answer_lent(s: &[u8], is_table: bool, out: &mut [u8], at: usize) -> Answered
     requires { ⌜ at + lineBytes ≤ length (now out) ⌝ }
-    ensures { λ r. ⌜ AnsweredIn r (lentAnswer (lentIn (now (s .entry)))) (now (out .entry)) (now (out .exit)) at ⌝ }
+    ensures { λ r. ⌜ AnsweredIn r (lentAnswer «is_table» (lentIn (now (s .entry)))) (now (out .entry)) (now (out .exit)) at ⌝ }
 {
     match lines::lists_in(s) {
-        LentLists::Lists(e) => Answered::Upto(answers::put_lent(out, at, s, e)),
+        LentLists::Lists(e) => Answered::Upto(lent_answers::put_lent(out, at, is_table, s, e)),
         LentLists::NoLists => Answered::NoText,
     }
 }
 
-// The answer to what stands behind `plane`.
-fn answer_plane(line: &[u8], text: &mut [u8], out: &mut [u8], at: usize) -> Answered
+// The answer to what stands behind `plane` or `table`.
+fn answer_plane(line: &[u8], is_table: bool, text: &mut [u8], out: &mut [u8], at: usize) -> Answered
     requires { ⌜ (at + lineBytes ≤ length (now out)) × (length (now text) ≡ textBytes) ⌝ }
-    ensures { λ r. ⌜ AnsweredIn r (planeAnswer textBytes (now (line .entry))) (now (out .entry)) (now (out .exit)) at ⌝ }
+    ensures { λ r. ⌜ AnsweredIn r (planeAnswer «is_table» textBytes (now (line .entry))) (now (out .entry)) (now (out .exit)) at ⌝ }
 {
     match lines::read_text(line, text) {
-        LineText::Text(n) => answer_lent(&text[0..n], out, at),
+        LineText::Text(n) => answer_lent(&text[0..n], is_table, out, at),
         LineText::Malformed => Answered::NoText,
     }
 }
@@ -74,6 +86,8 @@ pub enum Kind {
     Split,
     Drawing,
     Plane,
+    Sheet,
+    Table,
     Unknown,
 }
 
@@ -89,6 +103,12 @@ fn kind_of(word: &[u8]) -> Kind
     }
     if check::same(word, b"plane") {
         return Kind::Plane;
+    }
+    if check::same(word, b"sheet") {
+        return Kind::Sheet;
+    }
+    if check::same(word, b"table") {
+        return Kind::Table;
     }
     Kind::Unknown
 }
@@ -112,7 +132,9 @@ fn answer_line(
     match kind_of(&line[0..end]) {
         Kind::Split => answer_split(&line[start..], text, scratch, out, at),
         Kind::Drawing => answer_drawing(&line[start..], text, out, at),
-        Kind::Plane => answer_plane(&line[start..], text, out, at),
+        Kind::Plane => answer_plane(&line[start..], false, text, out, at),
+        Kind::Sheet => answer_sheet(&line[start..], text, out, at),
+        Kind::Table => answer_plane(&line[start..], true, text, out, at),
         Kind::Unknown => Answered::NoText,
     }
 }

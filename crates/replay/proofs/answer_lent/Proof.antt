@@ -1,6 +1,5 @@
 -- `replay::answer_lent` meets its contract.
 use mathlib.Core.Path.{refl}
-use Rattle.print.proofs.WrittenLaws.{written-within}
 use Rattle.lines.proofs.LentTextLaws.{lists-fit}
 use Rattle.replay.proofs.LentLaws.{lent-answered, lent-none}
 use native.Mathlib.Omega.{arith}
@@ -24,10 +23,10 @@ same-length : tie.Need-same-length
 same-length c = search needs
 
 returns : tie.Need-returns
-returns c = lent-answered _ _ (c .before .before .before .before .before .before .before .lists-in .ensures .0) (c .before .before .before .before .before .e .given .1) (written-within (c .before .before .put-lent .ensures) (omega arith))
+returns c = lent-answered _ _ _ (c .before .before .before .before .before .before .before .lists-in .ensures .0) (c .before .before .before .before .before .e .given .1) (c .before .before .put-lent .ensures)
 
 returns-2 : tie.Need-returns-2
-returns-2 c = (lent-none _ _ (c .before .before .lists-in .ensures .0) (c .enum-told .given .1), refl)
+returns-2 c = (lent-none _ _ _ (c .before .before .lists-in .ensures .0) (c .enum-told .given .1), refl)
 
 pub answer-lent-spec : {M : Type 1} → statement M
 answer-lent-spec =

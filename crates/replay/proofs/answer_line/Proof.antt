@@ -74,6 +74,36 @@ answer-plane-requires c κs = search needs
 enum-told-4 : tie.Need-enum-told-4
 enum-told-4 c = search needs
 
+sub-answer-sheet : tie.Need-sub-answer-sheet
+sub-answer-sheet c = search needs
+
+part-answer-sheet-start : tie.Need-part-answer-sheet-start
+part-answer-sheet-start c = search needs
+
+part-answer-sheet-end : tie.Need-part-answer-sheet-end
+part-answer-sheet-end c = search needs
+
+answer-sheet-requires : tie.Need-answer-sheet-requires
+answer-sheet-requires c κs = search needs
+
+enum-told-5 : tie.Need-enum-told-5
+enum-told-5 c = search needs
+
+sub-answer-plane-2 : tie.Need-sub-answer-plane-2
+sub-answer-plane-2 c = search needs
+
+part-answer-plane-start-2 : tie.Need-part-answer-plane-start-2
+part-answer-plane-start-2 c = search needs
+
+part-answer-plane-end-2 : tie.Need-part-answer-plane-end-2
+part-answer-plane-end-2 c = search needs
+
+answer-plane-requires-2 : tie.Need-answer-plane-requires-2
+answer-plane-requires-2 c κs = search needs
+
+enum-told-6 : tie.Need-enum-told-6
+enum-told-6 c = search needs
+
 same-length : tie.Need-same-length
 same-length c = search needs
 
@@ -104,8 +134,26 @@ same-length-7 c = search needs
 returns-4 : tie.Need-returns-4
 returns-4 c = answered-as (c .before .before .before .before .answer-plane .result) _ _ _ (c .before .before .before .before .answer-plane .ensures) (answer-is (c .before .before .before .before .before .before .before .before .before .before .before .before .before .find .ensures) _ _ (c .before .before .before .before .before .before .before .before .before .before .kind-of .ensures) (c .before .before .before .before .before .before .before .before .enum-told3 .given .1))
 
+same-length-8 : tie.Need-same-length-8
+same-length-8 c = search needs
+
+same-length-9 : tie.Need-same-length-9
+same-length-9 c = search needs
+
 returns-5 : tie.Need-returns-5
-returns-5 c = (sym (answer-is (c .before .before .before .before .before .find .ensures) _ _ (c .before .before .kind-of .ensures) (c .enum-told4 .given .1)), refl)
+returns-5 c = answered-as (c .before .before .before .before .answer-sheet .result) _ _ _ (c .before .before .before .before .answer-sheet .ensures) (answer-is (c .before .before .before .before .before .before .before .before .before .before .before .before .before .find .ensures) _ _ (c .before .before .before .before .before .before .before .before .before .before .kind-of .ensures) (c .before .before .before .before .before .before .before .before .enum-told4 .given .1))
+
+same-length-10 : tie.Need-same-length-10
+same-length-10 c = search needs
+
+same-length-11 : tie.Need-same-length-11
+same-length-11 c = search needs
+
+returns-6 : tie.Need-returns-6
+returns-6 c = answered-as (c .before .before .before .before .answer-plane2 .result) _ _ _ (c .before .before .before .before .answer-plane2 .ensures) (answer-is (c .before .before .before .before .before .before .before .before .before .before .before .before .before .find .ensures) _ _ (c .before .before .before .before .before .before .before .before .before .before .kind-of .ensures) (c .before .before .before .before .before .before .before .before .enum-told5 .given .1))
+
+returns-7 : tie.Need-returns-7
+returns-7 c = (sym (answer-is (c .before .before .before .before .before .find .ensures) _ _ (c .before .before .kind-of .ensures) (c .enum-told6 .given .1)), refl)
 
 pub answer-line-spec : {M : Type 1} → statement M
 answer-line-spec =
@@ -134,6 +182,16 @@ answer-line-spec =
     part-answer-plane-end
     answer-plane-requires
     enum-told-4
+    sub-answer-sheet
+    part-answer-sheet-start
+    part-answer-sheet-end
+    answer-sheet-requires
+    enum-told-5
+    sub-answer-plane-2
+    part-answer-plane-start-2
+    part-answer-plane-end-2
+    answer-plane-requires-2
+    enum-told-6
     same-length
     same-length-2
     same-length-3
@@ -144,4 +202,10 @@ answer-line-spec =
     same-length-6
     same-length-7
     returns-4
-    returns-5)
+    same-length-8
+    same-length-9
+    returns-5
+    same-length-10
+    same-length-11
+    returns-6
+    returns-7)

@@ -36,13 +36,13 @@ same-length-2 : tie.Need-same-length-2
 same-length-2 c = search needs
 
 returns : tie.Need-returns
-returns c = answered-as (c .before .before .answer-lent .result) _ _ _ (c .before .before .answer-lent .ensures) (plane-is _ _ _ _ (c .before .before .before .before .before .before .before .before .before .before .before .read-text .ensures .0) (c .before .before .before .before .before .before .before .before .before .before .before .before .before .before .before .before .pre .1) (c .before .before .before .before .before .before .before .n .given .1))
+returns c = answered-as (c .before .before .answer-lent .result) _ _ _ (c .before .before .answer-lent .ensures) (plane-is _ _ _ _ _ (c .before .before .before .before .before .before .before .before .before .before .before .read-text .ensures .0) (c .before .before .before .before .before .before .before .before .before .before .before .before .before .before .before .before .pre .1) (c .before .before .before .before .before .before .before .n .given .1))
 
 same-length-3 : tie.Need-same-length-3
 same-length-3 c = search needs
 
 returns-2 : tie.Need-returns-2
-returns-2 c = (no-plane _ _ _ _ (c .before .before .before .before .read-text .ensures .0) (c .before .before .before .before .before .before .before .before .before .pre .1) (c .enum-told .given .1), refl)
+returns-2 c = (no-plane _ _ _ _ _ (c .before .before .before .before .read-text .ensures .0) (c .before .before .before .before .before .before .before .before .before .pre .1) (c .enum-told .given .1), refl)
 
 pub answer-plane-spec : {M : Type 1} → statement M
 answer-plane-spec =
