@@ -1,5 +1,5 @@
 -- Laws of lists by their places.
-use mathlib.Core.Path.{_≡_, refl, ap, _∙_}
+use mathlib.Core.Path.{_≡_, refl, sym, ap, _∙_}
 use mathlib.Core.List.{List, [], _∷_, _++_, map}
 use Prim.Native.Nat.{ℕ, zero, suc, _+_, _-_, _≤_, _<_}
 use native.Mathlib.Numerals.{add-one}
@@ -14,11 +14,19 @@ module _ {A : Type 0} where
   length-run f k zero = refl
   length-run f k (suc n) = ap suc (length-run f (suc k) n)
 
+  -- two runs, one behind the other
+  pub run-then : (f : ℕ → A) (k m n : ℕ) → run f k (m + n) ≡ run f k m ++ run f (k + m) n
+  unfolding run
+  run-then f k zero n = let e : 0 + n ≡ n = omega arith in let z : k + 0 ≡ k = omega arith in rw (e, z)
+  run-then f k (suc m) n =
+      let e : suc m + n ≡ suc (m + n) = omega arith in
+      let z : k + suc m ≡ suc k + m = omega arith in
+      rw (e, z) (ap (λ (l : List A). f k ∷ l) (run-then f (suc k) m n))
+
   -- one more at the end
   pub run-next : (f : ℕ → A) (k n : ℕ) → run f k (suc n) ≡ run f k n ++ (f (k + n) ∷ [])
   unfolding run
-  run-next f k zero = let e : k + 0 ≡ k = omega arith in rw e
-  run-next f k (suc n) = let e : k + suc n ≡ suc k + n = omega arith in rw e (ap (λ (l : List A). f k ∷ l) (run-next f (suc k) n))
+  run-next f k n = ap (run f k) (sym (add-one n)) ∙ run-then f k n 1
 
   pub run-same : (f g : ℕ → A) (k n : ℕ) → ((i : ℕ) → k ≤ i → i < k + n → f i ≡ g i) → run f k n ≡ run g k n
   unfolding run

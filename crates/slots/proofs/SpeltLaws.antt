@@ -13,7 +13,7 @@ use lib.ListN.{length, getD, take, drop, set, length-append, length-drop}
 use lib.Seq.{length-take-le, getD-set-same, getD-set-other, lt-length-set}
 use Rattle.lists.specs.Choose.{choose}
 use Rattle.lists.specs.Run.{run}
-use Rattle.lists.proofs.RunLaws.{run-same, run-next}
+use Rattle.lists.proofs.RunLaws.{run-then, run-same, run-next}
 use Rattle.lists.proofs.Tests.{by-flag, choose-on}
 use Rattle.model.specs.Limits.{textBytes}
 use Rattle.record.specs.Policy.{Text}
@@ -26,15 +26,6 @@ use Rattle.writer.specs.SlotTexts.{textOfKind, slotText}
 use Rattle.slots.specs.Spelt.{partOf, PartIn, SlotPut, Room, Spelt}
 use Rattle.slots.specs.declared.Filled.{Filled}
 use Rattle.slots.specs.declared.Part.{Part}
-
--- two runs, one behind the other
-run-then : {A : Type 0} (f : ℕ → A) (k m n : ℕ) → run f k (m + n) ≡ run f k m ++ run f (k + m) n
-unfolding run
-run-then f k zero n = let e : 0 + n ≡ n = omega arith in let z : k + 0 ≡ k = omega arith in rw (e, z)
-run-then {A} f k (suc m) n =
-    let e : suc m + n ≡ suc (m + n) = omega arith in
-    let z : k + suc m ≡ suc k + m = omega arith in
-    rw (e, z) (ap (λ (l : List A). f k ∷ l) (run-then f (suc k) m n))
 
 -- one text more, and one list more
 pub run-more : {A : Type 0} (f : ℕ → A) (k n : ℕ) → run f k (n + 1) ≡ run f k n ++ (f (k + n) ∷ [])

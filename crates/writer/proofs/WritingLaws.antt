@@ -10,7 +10,7 @@ use borrow.Author.Tests.{lt-ltb, le-ltb}
 use Rattle.lists.specs.Put.{put}
 use Rattle.lists.specs.Run.{run}
 use Rattle.lists.proofs.PutLaws.{put-front}
-use Rattle.lists.proofs.RunLaws.{length-run, run-same, getD-build}
+use Rattle.lists.proofs.RunLaws.{length-run, run-then, run-same, getD-build}
 use Rattle.model.specs.Limits.{textBytes}
 use Rattle.model.specs.declared.Refusal.{Refusal}
 use Rattle.record.specs.Policy.{Text}
@@ -93,19 +93,6 @@ held-slots p e h =
       enough = omega (arith, p .enough);
     }
 
--- a run, and the run behind it
-run-append : {A : Type 0} (f : ℕ → A) (k m n : ℕ) → m ≤ n → run f k n ≡ run f k m ++ run f (k + m) (n - m)
-unfolding run
-run-append f k zero n h =
-    let e : k + 0 ≡ k = omega arith in
-    let z : n - 0 ≡ n = omega arith in
-    rw (e, z)
-run-append f k (suc m) zero h = absurd (omega arith)
-run-append {A} f k (suc m) (suc n) h =
-    let e : k + suc m ≡ suc k + m = omega arith in
-    let z : suc n - suc m ≡ n - m = omega arith in
-    rw (e, z) (ap (λ (l : List A). f k ∷ l) (run-append f (suc k) m n (omega arith)))
-
 -- the writing over x₀ has come to slot i and the offset o: the texts of the slots that are left give the whole
 pub record SlotsTo (bytes d : List ℕ) (c : ℕ) (x₀ x : List ℕ) (i o : ℕ) : Type 0 where
   pub fits : Fits (textsFrom bytes d i (c - i)) c i o (length x)
@@ -122,8 +109,8 @@ module _ {bytes d : List ℕ} {c : ℕ} {x₀ x : List ℕ} {i o : ℕ} (s : Slo
   module _ (n : ℕ) (ts : List Text) (h : i + n ≤ c) (e : ts ≡ textsFrom bytes d i n) where
     left : textsFrom bytes d i (c - i) ≡ ts ++ textsFrom bytes d (i + n) (c - (i + n))
     left =
-        let z : c - i - n ≡ c - (i + n) = omega arith in
-        run-append (slotText bytes d) i n (c - i) (omega arith) ∙ rw (z, e)
+        let z : c - i ≡ n + (c - (i + n)) = omega arith in
+        ap (textsFrom bytes d i) z ∙ run-then (slotText bytes d) i n (c - (i + n)) ∙ rw e
 
     packed-left : length (packed (textsFrom bytes d i (c - i))) ≡ length (packed ts) + length (packed (textsFrom bytes d (i + n) (c - (i + n))))
     packed-left = ap (λ (l : List Text). length (packed l)) left ∙ length-packed ts (textsFrom bytes d (i + n) (c - (i + n)))
