@@ -3,3 +3,4 @@ pub mod Recorded
 pub mod SamePolicySameRecord
 pub mod TurnedColumnSheet
 pub mod Examples
+pub mod Sheets
