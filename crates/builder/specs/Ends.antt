@@ -1,39 +1,23 @@
 -- What an entry answers and leaves: document 01, "Refused sheets".
-use mathlib.Core.List.{List, [], _∷_, map}
-use mathlib.Core.Path.{_≡_}
-use Prim.Native.Nat.{ℕ, suc}
-use lib.Dec.{ltb}
+use mathlib.Core.List.{List, map}
+use Prim.Native.Nat.{ℕ}
 use lib.ListN.{length}
 use Rattle.lists.specs.Answer.{ok, refused}
-use Rattle.lists.specs.Choose.{choose}
 use Rattle.lists.specs.Zeros.{zeros}
 use Rattle.model.specs.Refusals.{Reading}
-use Rattle.model.specs.declared.Refusal.the-variants.{WorkSliceShort}
 use Rattle.record.specs.Policy.{Policy}
 use Rattle.record.specs.Record.{Table}
 use Rattle.recognizer.specs.Told.{tableRead}
+use Rattle.room.specs.Room.{roomFrom}
 use Rattle.records.specs.Outcomes.{outcomeOf, recordOf}
 use Rattle.records.specs.declared.Outcome.{Outcome}
 use Rattle.records.specs.declared.Outcome.the-variants.{Refused}
-use Rattle.builder.specs.declared.WorkSlices.{WorkSlices}
-use Rattle.builder.specs.declared.WorkSlices.the-variants.{Enough, Short}
 
 -- how a call ends: its outcome, its work slices, and its record slice
 pub record End : Type 0 where
   pub outcome : Outcome
   pub works : List (List ℕ)
   pub out : List ℕ
-
--- 28: the lowest work slice, counted from i, that has fewer elements than its constant
-unfoldable pub roomFrom : ℕ → List ℕ → List ℕ → Reading (Unit {0})
-roomFrom i [] ks = ok tt
-roomFrom i (n ∷ ns) [] = ok tt
-roomFrom i (n ∷ ns) (k ∷ ks) = choose (ltb n k) (refused (WorkSliceShort i k)) (roomFrom (suc i) ns ks)
-
--- an answer to that
-abbrev pub roomIn : WorkSlices → Reading (Unit {0})
-roomIn Enough = ok tt
-roomIn (Short r) = refused r
 
 -- the end of a call that reads a table: after 28 every slice is unchanged, after anything else the work slices are zero
 abbrev pub endBy : Reading (Unit {0}) → Reading Table → List (List ℕ) → List ℕ → End
@@ -43,7 +27,3 @@ endBy (refused r) m works out = record { outcome = Refused r; works = works; out
 -- the end of a call that reads a policy, with work slices of at least these constants
 unfoldable pub endOf : List ℕ → Reading Policy → List (List ℕ) → List ℕ → End
 endOf sizes m works out = endBy (roomFrom 0 (map length works) sizes) (tableRead m) works out
-
--- each work slice has at least its constant
-abbrev pub Roomy : List (List ℕ) → List ℕ → Type 0
-Roomy works sizes = roomFrom 0 (map length works) sizes ≡ ok tt

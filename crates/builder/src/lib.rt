@@ -1,37 +1,17 @@
 // The public entries: the whole reader, from the bytes of a sheet to its record, and the table from a lent plane.
-use model::Refusal;
 use records::Outcome;
+use room::WorkSlices;
 ghost use mathlib.Core.List.{[], _∷_};
 ghost use mathlib.Core.Path.{_≡_};
 ghost use lib.ListN.{length};
 ghost use Rattle.lists.specs.Zeros.{zeros};
-ghost use Rattle.builder.specs.Ends.{roomFrom, roomIn, Roomy};
+ghost use Rattle.room.specs.Room.{Roomy};
 ghost use Rattle.builder.specs.Entries.{sheetSizes, sheetEnd, lentSizes, lentEnd};
-
-// Whether the work slices have their lengths.
-pub enum WorkSlices {
-    Enough,
-    Short(Refusal),
-}
 
 // The least lengths of the work slices, in the order in which they are lent.
 const SHEET_SIZES: [usize; 9] = [15360, 15360, 15360, 15360, 4096, 2048, 4160, 61444, 61440];
 
 const LENT_SIZES: [usize; 5] = [4160, 2048, 4160, 12480, 61440];
-
-fn work_slices(lens: &[usize], sizes: &[usize]) -> WorkSlices
-    requires { ⌜ length (now lens) ≡ length (now sizes) ⌝ }
-    ensures { λ r. ⌜ roomIn r ≡ roomFrom 0 (now (lens .entry)) (now (sizes .entry)) ⌝ }
-{
-    let mut i = 0;
-    while i < lens.len() {
-        if lens[i] < sizes[i] {
-            return WorkSlices::Short(Refusal::WorkSliceShort(i, sizes[i]));
-        }
-        i += 1;
-    }
-    WorkSlices::Enough
-}
 
 fn clear_two(a: &mut [u8], b: &mut [u8])
     ensures { λ _. ⌜ (now (a .exit) ≡ zeros (now (a .entry))) × (now (b .exit) ≡ zeros (now (b .entry))) ⌝ }
@@ -121,7 +101,7 @@ pub fn read_sheet(
         scratch.len(),
     ];
     let sizes = SHEET_SIZES;
-    match work_slices(&lens, &sizes) {
+    match room::work_slices(&lens, &sizes) {
         WorkSlices::Enough => sheet_cleared(
             s,
             text,
@@ -201,7 +181,7 @@ pub fn read_lent_plane(
         scratch.len(),
     ];
     let least = LENT_SIZES;
-    match work_slices(&lens, &least) {
+    match room::work_slices(&lens, &least) {
         WorkSlices::Enough => lent_cleared(
             rows,
             kinds,

@@ -15,7 +15,8 @@ use Rattle.model.specs.declared.Refusal.the-variants.{OutputSliceShort}
 use Rattle.record.specs.Policy.{Policy}
 use Rattle.record.specs.Record.{total, encode, tableOf}
 use Rattle.recognizer.specs.Told.{tableRead}
-use Rattle.builder.specs.Ends.{End, roomFrom, endBy, endOf}
+use Rattle.room.specs.Room.{roomFrom}
+use Rattle.builder.specs.Ends.{End, endBy, endOf}
 use Rattle.records.specs.Outcomes.{outcomeOf}
 use Rattle.records.specs.declared.Outcome.the-variants.{Record, Refused}
 use Rattle.policies.specs.DrawnPolicy.{walkedPolicy}

@@ -31,7 +31,9 @@ use Rattle.listing.specs.TableLines.{tableLines}
 use Rattle.listing.proofs.ListingLaws.{encode-lines}
 use Rattle.listing.proofs.SoundLaws.{put-sound}
 use Rattle.records.specs.Outcomes.{outcomeOf, recordOf}
-use Rattle.builder.specs.Ends.{End, roomFrom, endBy, endOf}
+use Rattle.room.specs.Room.{roomFrom}
+use Rattle.room.proofs.RoomLaws.{room-exact}
+use Rattle.builder.specs.Ends.{End, endBy, endOf}
 use Rattle.records.specs.declared.Outcome.{Outcome}
 use Rattle.reports.specs.Outcomes.{outcomeLines, OutcomeSound}
 use Rattle.reports.specs.PolicyLines.{policyLines}
@@ -73,11 +75,6 @@ outcome-reported (ok p) d h =
     by-flag (ltb (length d) (total (tableOf p))) (λ t. rw t (record { sound = tt; lines = rw t }))
     (λ t. rw t (record { sound = put-sound (tableOf p) (texts-counted p (q .complete)) (q .total) (h .few p refl) d; lines = rw t (put-lines p d q) }))
 outcome-reported (refused r) d h = record { sound = tt; lines = refl }
-
-room-exact : (i : ℕ) (ks : List ℕ) → roomFrom i ks ks ≡ ok tt
-unfolding roomFrom
-room-exact i [] = refl
-room-exact i (k ∷ ks) = rw (le-ltb k k (omega arith)) (room-exact (suc i) ks)
 
 -- a call with work slices of exactly their lengths
 pub end-reported : (sizes : List ℕ) (m : Reading Policy) (works cleared : List (List ℕ)) (d o : List ℕ) (r : Outcome) (n : ℕ) → Printable m → map length works ≡ sizes → length d ≡ n

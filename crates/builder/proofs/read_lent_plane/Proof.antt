@@ -4,7 +4,7 @@ use mathlib.Core.Path.{sym, ap, _∙_}
 use Prim.Native.Nat.{ℕ}
 use Rattle.lent.specs.LentPlane.{LentPlane}
 use Rattle.policies.specs.LentPolicy.{lentPolicy}
-use Rattle.builder.specs.Ends.{roomIn}
+use Rattle.room.specs.Room.{roomIn}
 use Rattle.builder.specs.Entries.{lentSizes}
 use Rattle.builder.proofs.EndLaws.{end-short}
 use borrow.Author.Needs.{needs}

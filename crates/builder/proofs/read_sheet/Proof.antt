@@ -3,7 +3,7 @@ use mathlib.Core.List.{List, [], _∷_}
 use mathlib.Core.Path.{sym, ap, _∙_}
 use Prim.Native.Nat.{ℕ}
 use Rattle.policies.specs.DrawnPolicy.{walkedPolicy}
-use Rattle.builder.specs.Ends.{roomIn}
+use Rattle.room.specs.Room.{roomIn}
 use Rattle.builder.specs.Entries.{sheetSizes}
 use Rattle.builder.proofs.EndLaws.{end-short}
 use borrow.Author.Needs.{needs}

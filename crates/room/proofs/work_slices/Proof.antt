@@ -1,12 +1,12 @@
--- `builder::work_slices` meets its contract.
+-- `room::work_slices` meets its contract.
 use mathlib.Core.Path.{_≡_, refl, sym, _∙_}
 use Prim.Native.Nat.{_-_, _≤_, _<_}
 use native.Mathlib.Omega.{arith}
 use lib.ListN.{length, drop}
-use Rattle.builder.specs.Ends.{roomFrom}
-use Rattle.builder.proofs.RoomLaws.{room-stop, room-on, room-end}
-use Rattle.builder.proofs.work_slices.Statement.{statement}
-use Rattle.builder.proofs.work_slices.Tie as tie
+use Rattle.room.specs.Room.{roomFrom}
+use Rattle.room.proofs.RoomLaws.{room-stop, room-on, room-end}
+use Rattle.room.proofs.work_slices.Statement.{statement}
+use Rattle.room.proofs.work_slices.Tie as tie
 
 abbrev Inv-loop : tie.InvT-loop
 Inv-loop lens sizes i₀ i = (i ≤ length lens) × (roomFrom 0 lens sizes ≡ roomFrom i (drop i lens) (drop i sizes))

@@ -1,0 +1,2 @@
+-- Laws of the work slices.
+pub mod RoomLaws
