@@ -5,8 +5,8 @@ use lib.ListN.{length}
 use Rattle.model.specs.Limits.{textBytes}
 use Rattle.room.specs.Room.{Roomy}
 use Rattle.room.proofs.RoomLaws.{at-least}
-use Rattle.sources.specs.DrawnTable.{DrawnRoom}
-use Rattle.sources.specs.LentTable.{LentRoom}
+use Rattle.drawn_records.specs.DrawnTable.{DrawnRoom}
+use Rattle.lent_records.specs.LentTable.{LentRoom}
 use Rattle.builder.specs.Entries.{sheetSizes, lentSizes}
 
 -- the slices of a drawing's table, and the scratch slice

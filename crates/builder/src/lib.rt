@@ -54,7 +54,7 @@ fn sheet_cleared(
     requires { ⌜ Roomy (now text ∷ now thins ∷ now bodies ∷ now grid ∷ now rects ∷ now spans ∷ now plane ∷ now bytes ∷ now scratch ∷ []) sheetSizes ⌝ }
     ensures end { λ r. ⌜ sheetEnd (now (s .entry)) (now (text .entry) ∷ now (thins .entry) ∷ now (bodies .entry) ∷ now (grid .entry) ∷ now (rects .entry) ∷ now (spans .entry) ∷ now (plane .entry) ∷ now (bytes .entry) ∷ now (scratch .entry) ∷ []) (now (out .entry)) ≡ record { outcome = r; works = now (text .exit) ∷ now (thins .exit) ∷ now (bodies .exit) ∷ now (grid .exit) ∷ now (rects .exit) ∷ now (spans .exit) ∷ now (plane .exit) ∷ now (bytes .exit) ∷ now (scratch .exit) ∷ []; out = now (out .exit) } ⌝ }
 {
-    let r = records::sheet_record(
+    let r = drawn_records::sheet_record(
         s,
         text,
         thins,
@@ -137,7 +137,7 @@ fn lent_cleared(
     requires { ⌜ Roomy (now plane ∷ now spans ∷ now upright ∷ now slots ∷ now scratch ∷ []) lentSizes ⌝ }
     ensures end { λ r. ⌜ lentEnd (record { rows = now (rows .entry); kinds = now (kinds .entry); regions = now (regions .entry); offsets = now (offsets .entry); sizes = now (sizes .entry); bytes = now (bytes .entry) }) (now (plane .entry) ∷ now (spans .entry) ∷ now (upright .entry) ∷ now (slots .entry) ∷ now (scratch .entry) ∷ []) (now (out .entry)) ≡ record { outcome = r; works = now (plane .exit) ∷ now (spans .exit) ∷ now (upright .exit) ∷ now (slots .exit) ∷ now (scratch .exit) ∷ []; out = now (out .exit) } ⌝ }
 {
-    let r = records::lent_record(
+    let r = lent_records::lent_record(
         rows,
         kinds,
         regions,

@@ -1,17 +1,17 @@
--- `sources::drawn_table` meets its contract.
+-- `drawn_records::drawn_table` meets its contract.
 use mathlib.Core.Path.{_≡_, sym, ap, _∙_, subst}
 use mathlib.Core.List.{List}
 use Prim.Native.Nat.{ℕ}
 use lib.ListN.{length-take}
 use Rattle.model.specs.Limits.{textBytes}
-use Rattle.sources.specs.DrawnTable.{namedPlane, drawnIn, DrawnHeld}
-use Rattle.sources.specs.declared.DrawnRows.{DrawnRows}
-use Rattle.sources.specs.declared.DrawnRows.the-variants.{Rows}
-use Rattle.sources.proofs.DrawnTableLaws.{no-policy, drawn-policy}
+use Rattle.drawn_records.specs.DrawnTable.{namedPlane, drawnIn, DrawnHeld}
+use Rattle.drawn_records.specs.declared.DrawnRows.{DrawnRows}
+use Rattle.drawn_records.specs.declared.DrawnRows.the-variants.{Rows}
+use Rattle.drawn_records.proofs.DrawnTableLaws.{no-policy, drawn-policy}
 use native.Mathlib.Omega.{arith}
 use borrow.Author.Needs.{needs}
-use Rattle.sources.proofs.drawn_table.Statement.{statement}
-use Rattle.sources.proofs.drawn_table.Tie as tie
+use Rattle.drawn_records.proofs.drawn_table.Statement.{statement}
+use Rattle.drawn_records.proofs.drawn_table.Tie as tie
 
 -- the plane that was drawn, by its places
 abbrev drawn : tie.After-known-told → tie.After-drawn-plane

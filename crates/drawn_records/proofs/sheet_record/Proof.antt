@@ -1,4 +1,4 @@
--- `records::sheet_record` meets its contract.
+-- `drawn_records::sheet_record` meets its contract.
 use mathlib.Core.Path.{_≡_, sym, ap, _∙_, subst}
 use mathlib.Core.List.{List}
 use Prim.Native.Nat.{ℕ}
@@ -13,10 +13,10 @@ use Rattle.recognizer.specs.declared.Recognized.the-variants.{Stands}
 use Rattle.recognizer.specs.declared.SlotTable.{SlotTable}
 use Rattle.tables.specs.NamedTable.{namedTable, NamedHeld, AnswerHeld}
 use Rattle.policies.specs.DrawnPolicy.{walkedPolicy}
 use Rattle.records.specs.Outcomes.{outcomeOf, recordOf}
 use borrow.Author.Needs.{needs}
-use Rattle.records.proofs.sheet_record.Statement.{statement}
-use Rattle.records.proofs.sheet_record.Tie as tie
+use Rattle.drawn_records.proofs.sheet_record.Statement.{statement}
+use Rattle.drawn_records.proofs.sheet_record.Tie as tie
 
 -- the table that was drawn, by its places
 abbrev drawn : tie.After-known-told → tie.After-drawn-table

@@ -1,51 +1,19 @@
-// The table of a lent plane and of a drawing: its numbers, and its texts as slots of a work slice.
+// The record of a drawing. The work slices are left as they come: the entry clears them.
 use canvas::Drawing;
 use canvas::PlaneRead;
-use lent::Loaded;
 use model::Refusal;
 use model::limits::TEXT_BYTES;
 use recognizer::Recognized;
+use records::Outcome;
 ghost use mathlib.Core.Path.{_≡_};
-ghost use lib.ListN.{take};
+ghost use Prim.Native.Nat.{_≤_};
+ghost use lib.ListN.{length, take};
 ghost use Rattle.model.specs.Limits.{textBytes};
 ghost use Rattle.recognizer.specs.Told.{tableRead};
 ghost use Rattle.tables.specs.NamedTable.{namedTable, AnswerHeld};
 ghost use Rattle.policies.specs.DrawnPolicy.{walkedPolicy};
-ghost use Rattle.policies.specs.LentPolicy.{lentPolicy};
-ghost use Rattle.sources.specs.DrawnTable.{namedPlane, drawnIn, DrawnHeld, DrawnRoom};
-ghost use Rattle.sources.specs.LentTable.{LentRoom};
-
-// The table of a lent plane.
-pub fn lent_table(
-    rows: &[u32],
-    kinds: &[u8],
-    regions: &[u32],
-    offsets: &[u32],
-    sizes: &[u32],
-    bytes: &[u8],
-    plane: &mut [u32],
-    spans: &mut [u32],
-    upright: &mut [u32],
-    slots: &mut [u32],
-) -> Recognized
-    requires { ⌜ LentRoom (now plane) (now spans) (now upright) (now slots) ⌝ }
-    ensures table { λ r. ⌜ namedTable r (now (bytes .entry)) (now (slots .exit)) ≡ tableRead (lentPolicy (record { rows = now (rows .entry); kinds = now (kinds .entry); regions = now (regions .entry); offsets = now (offsets .entry); sizes = now (sizes .entry); bytes = now (bytes .entry) })) ⌝ }
-    ensures held { λ r. ⌜ AnswerHeld r (now (bytes .entry)) (now (slots .exit)) ⌝ }
-{
-    match lent::load(rows, kinds, regions, offsets, sizes, bytes, plane, spans) {
-        Loaded::Rows(n) => tables::plane_table(
-            plane,
-            n,
-            bytes,
-            spans,
-            offsets.len(),
-            false,
-            upright,
-            slots,
-        ),
-        Loaded::NotLoaded(r) => Recognized::NotRecognized(r),
-    }
-}
+ghost use Rattle.records.specs.Outcomes.{outcomeOf, recordOf};
+ghost use Rattle.drawn_records.specs.DrawnTable.{namedPlane, drawnIn, DrawnHeld, DrawnRoom};
 
 // So many rows of a plane, with so many regions, and whether the first of these is the name's; or a refusal.
 pub enum DrawnRows {
@@ -91,7 +59,7 @@ fn drawn_plane(
 
 // The table of a drawing. Once there is a plane the layers are not needed: the upright sheet goes where BODY was,
 // the slots where THIN was.
-pub fn drawn_table(
+fn drawn_table(
     s: &[u8],
     text: &mut [u32],
     thins: &mut [u32],
@@ -118,5 +86,29 @@ pub fn drawn_table(
             thins,
         ),
         DrawnRows::NotDrawn(r) => Recognized::NotRecognized(r),
+    }
+}
+
+// The record of a drawing.
+pub fn sheet_record(
+    s: &[u8],
+    text: &mut [u32],
+    thins: &mut [u32],
+    bodies: &mut [u32],
+    grid: &mut [u32],
+    rects: &mut [u32],
+    spans: &mut [u32],
+    plane: &mut [u32],
+    bytes: &mut [u8],
+    scratch: &mut [u8],
+    out: &mut [u8],
+) -> Outcome
+    requires { ⌜ DrawnRoom (now text) (now thins) (now bodies) (now grid) (now rects) (now bytes) (now spans) (now plane) × (textBytes ≤ length (now scratch)) ⌝ }
+    ensures outcome { λ r. ⌜ r ≡ outcomeOf (tableRead (walkedPolicy (now (s .entry)))) (length (now (out .entry))) ⌝ }
+    ensures out { λ _. ⌜ now (out .exit) ≡ recordOf (tableRead (walkedPolicy (now (s .entry)))) (now (out .entry)) ⌝ }
+{
+    match drawn_table(s, text, thins, bodies, grid, rects, bytes, spans, plane) {
+        Recognized::Stands(t) => records::write_table(t, &bytes[0..TEXT_BYTES], thins, scratch, out),
+        Recognized::NotRecognized(r) => Outcome::Refused(r),
     }
 }

@@ -1,4 +1,4 @@
--- `records::lent_record` meets its contract.
+-- `lent_records::lent_record` meets its contract.
 use mathlib.Core.Path.{_≡_, sym, ap, _∙_, subst}
 use mathlib.Core.List.{List}
 use Prim.Native.Nat.{ℕ}
@@ -13,10 +13,10 @@ use Rattle.recognizer.specs.declared.SlotTable.{SlotTable}
 use Rattle.tables.specs.NamedTable.{namedTable, NamedHeld, AnswerHeld}
 use Rattle.lent.specs.LentPlane.{LentPlane}
 use Rattle.policies.specs.LentPolicy.{lentPolicy}
 use Rattle.records.specs.Outcomes.{outcomeOf, recordOf}
 use borrow.Author.Needs.{needs}
-use Rattle.records.proofs.lent_record.Statement.{statement}
-use Rattle.records.proofs.lent_record.Tie as tie
+use Rattle.lent_records.proofs.lent_record.Statement.{statement}
+use Rattle.lent_records.proofs.lent_record.Tie as tie
 
 -- the table that was made, by its places
 abbrev made : tie.After-known-told → tie.After-lent-table

@@ -1,4 +1,4 @@
--- `sources::lent_table` meets its contract.
+-- `lent_records::lent_table` meets its contract.
 use mathlib.Core.Path.{_≡_, sym, ap, _∙_, subst}
 use mathlib.Core.List.{List}
 use Prim.Native.Nat.{ℕ}
@@ -11,9 +11,9 @@ use Rattle.lent.specs.Held.{loadedIn, LoadedHeld}
 use Rattle.lent.specs.LentPlane.{LentPlane, lentOf}
 use Rattle.lent.specs.declared.Loaded.{Loaded}
 use borrow.Author.Needs.{needs}
-use Rattle.sources.proofs.LentTableLaws.{not-lent, lent-policy, few-bytes, no-name}
-use Rattle.sources.proofs.lent_table.Statement.{statement}
-use Rattle.sources.proofs.lent_table.Tie as tie
+use Rattle.lent_records.proofs.LentTableLaws.{not-lent, lent-policy, few-bytes, no-name}
+use Rattle.lent_records.proofs.lent_table.Statement.{statement}
+use Rattle.lent_records.proofs.lent_table.Tie as tie
 
 -- the plane that was loaded, by its places
 abbrev loaded : tie.After-known-told → tie.After-load

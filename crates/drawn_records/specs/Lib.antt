@@ -1,2 +1,1 @@
-pub mod LentTable
 pub mod DrawnTable

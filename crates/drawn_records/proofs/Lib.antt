@@ -1,0 +1,2 @@
+-- Laws of the table of a drawing.
+pub mod DrawnTableLaws

@@ -1,0 +1,2 @@
+-- Laws of the table of a lent plane.
+pub mod LentTableLaws

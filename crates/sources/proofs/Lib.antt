@@ -1,3 +1,0 @@
--- Laws of tables.
-pub mod LentTableLaws
-pub mod DrawnTableLaws
