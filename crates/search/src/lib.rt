@@ -1,4 +1,4 @@
-// The search for a text in another, linear in both, by the periods of the fronts of the first.
+// The search for a text in another by the periods of its fronts, after Galil and Seiferas 1983.
 ghost use mathlib.Core.Bool.{_&&_};
 ghost use mathlib.Core.List.{List};
 ghost use mathlib.Core.Path.{_≡_};
