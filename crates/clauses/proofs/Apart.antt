@@ -17,9 +17,12 @@ use Rattle.model.specs.Refusals.{Reading}
 use Rattle.model.specs.declared.Refusal.the-variants.{PlaneMalformed}
 use Rattle.cells.specs.Plane.{Plane}
 use Rattle.record.specs.Policy.{Text}
-use Rattle.clauses.specs.Readings.{refuse, along}
-use Rattle.clauses.specs.SheetCells.{widthOf, regionAt, columnIs, Place}
-use Rattle.clauses.specs.Clauses.{mainOf, outputsEnd, allowedOf, present, OutputTexts, NoteTexts, Found, textAt, optionalAt, entriesOf, oneOutput, manyOutputs, outputsOf, notesOf, foundFrom}
+use Rattle.allowed.specs.Readings.{refuse}
+use Rattle.allowed.specs.SheetCells.{widthOf, regionAt, columnIs}
+use Rattle.allowed.specs.Allowed.{allowedOf}
+use Rattle.clauses.specs.Readings.{along}
+use Rattle.clauses.specs.SheetCells.{Place}
+use Rattle.clauses.specs.Clauses.{mainOf, outputsEnd, present, OutputTexts, NoteTexts, Found, textAt, optionalAt, entriesOf, oneOutput, manyOutputs, outputsOf, notesOf, foundFrom}
 use Rattle.clauses.specs.Shape.{fine, fineRow, fineRows, oneLayout, namedLayout, labelledLayout, manyLayout, layoutOf, notesAt, inputsFine, clausesAt, shapeOf}
 use Rattle.clauses.specs.Spelled.{readOr, cellText, optional}
 use Rattle.clauses.specs.declared.Layout.{Layout}

@@ -1,8 +1,4 @@
 -- Laws of the clause rules.
-pub mod CellLaws
-mod TestLaws
-mod MetLaws
-mod AllowedLaws
 mod PassLaws
 mod SpotLaws
 mod ShapeLaws

@@ -16,10 +16,12 @@ use Rattle.lists.proofs.RunLaws.{length-run}
 use Rattle.model.specs.Refusals.{Reading}
 use Rattle.model.specs.declared.Refusal.the-variants.{PlaneMalformed, InvalidSize}
 use Rattle.cells.specs.Plane.{Plane}
-use Rattle.clauses.specs.Readings.{refuse}
-use Rattle.clauses.specs.SheetCells.{Place, columnIs}
+use Rattle.allowed.specs.Readings.{refuse}
+use Rattle.allowed.specs.SheetCells.{columnIs}
+use Rattle.allowed.specs.Allowed.{allowedOf}
+use Rattle.clauses.specs.SheetCells.{Place}
 use Rattle.clauses.specs.Sizes.{differ, uneven, sized}
-use Rattle.clauses.specs.Clauses.{mainOf, outputsEnd, allowedOf}
+use Rattle.clauses.specs.Clauses.{mainOf, outputsEnd}
 use Rattle.clauses.specs.Shape.{fine, fineRow, fineRows, inputsFine, notesAt, oneLayout, namedLayout, labelledLayout, manyLayout, layoutOf, clausesAt, shapeOf, sizesOf}
 use Rattle.clauses.specs.Spelled.{cellText, optional, firstOutput, valuesRow, namesRow}
 use Rattle.clauses.specs.declared.Layout.{Layout}

@@ -8,8 +8,8 @@ use Rattle.model.specs.Refusals.{Reading}
 use Rattle.model.specs.declared.Refusal.{Refusal}
 use Rattle.cells.specs.Plane.{Plane, planeIn}
 use Rattle.cells.proofs.PlaneLaws.{length-plane}
+use Rattle.allowed.specs.SheetCells.{regionAt}
 use Rattle.clauses.specs.Readings.{pass}
-use Rattle.clauses.specs.SheetCells.{regionAt}
 use Rattle.clauses.specs.Shape.{fine, fineRow, fineRows}
 
 module _ (P : Plane) (y x : ℕ) where

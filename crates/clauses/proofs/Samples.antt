@@ -14,9 +14,12 @@ use Rattle.model.specs.declared.Refusal.the-variants.{InvalidSize, TooManyOutpu
 use Rattle.cells.specs.Plane.{Plane}
 use Rattle.record.specs.Policy.{Text}
 use Rattle.record.specs.Record.{inputTexts, outputTexts, ruleTexts}
-use Rattle.clauses.specs.Readings.{along, every}
-use Rattle.clauses.specs.SheetCells.{regionAt, columnIs, meetRow, apartFrom, placeInRow, placeFrom}
-use Rattle.clauses.specs.Clauses.{allowedTwo, allowedThree, allowedOf, textAt, optionalAt, entriesOf, oneOutput, manyOutputs, outputsOf, notesOf, foundFrom}
+use Rattle.allowed.specs.Readings.{every}
+use Rattle.allowed.specs.SheetCells.{regionAt, columnIs, meetRow, apartFrom}
+use Rattle.allowed.specs.Allowed.{allowedTwo, allowedThree, allowedOf}
+use Rattle.clauses.specs.Readings.{along}
+use Rattle.clauses.specs.SheetCells.{placeInRow, placeFrom}
+use Rattle.clauses.specs.Clauses.{textAt, optionalAt, entriesOf, oneOutput, manyOutputs, outputsOf, notesOf, foundFrom}
 use Rattle.clauses.specs.Sizes.{uneven, sized}
 use Rattle.clauses.specs.Stated.{statedBy, clausesOf, clauseTexts}
 

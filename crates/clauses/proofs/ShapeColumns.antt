@@ -12,9 +12,11 @@ use Rattle.lists.proofs.AnswerLaws.{then-ok}
 use Rattle.model.specs.declared.Cell.the-variants.{MainDoubleCrossing, HorizontalDoubleCrossing}
 use Rattle.model.specs.declared.Refusal.the-variants.{PlaneMalformed}
 use Rattle.cells.specs.Plane.{Plane}
-use Rattle.clauses.specs.Clauses.{mainOf, outputsEnd, allowedOf}
-use Rattle.clauses.specs.Readings.{refuse}
-use Rattle.clauses.specs.SheetCells.{widthOf, Place, placeOf}
+use Rattle.allowed.specs.Allowed.{allowedOf}
+use Rattle.allowed.specs.Readings.{refuse}
+use Rattle.allowed.specs.SheetCells.{widthOf}
+use Rattle.clauses.specs.Clauses.{mainOf, outputsEnd}
+use Rattle.clauses.specs.SheetCells.{Place, placeOf}
 use Rattle.clauses.specs.Shape.{fineRow, fineRows, layoutOf, notesAt, inputsFine, clausesAt, shapeOf, sizesOf, checkedShape}
 use Rattle.clauses.specs.declared.Notes.{Notes}
 use Rattle.clauses.specs.declared.Shape.{Shape}

@@ -14,8 +14,10 @@ use Rattle.model.specs.declared.Refusal.{Refusal}
 use Rattle.model.specs.declared.Refusal.the-variants.{NoMainCrossing, PlaneMalformed, NoOutputClause, TooManyOutputRows, InvalidSize}
 use Rattle.cells.specs.Plane.{Plane, planeIn}
 use Rattle.cells.proofs.PlaneLaws.{length-plane}
-use Rattle.clauses.specs.Clauses.{outputsEnd, allowedOf}
-use Rattle.clauses.specs.SheetCells.{widthOf, columnIs, Place, placeOf}
+use Rattle.allowed.specs.Allowed.{allowedOf}
+use Rattle.allowed.specs.SheetCells.{widthOf, columnIs}
+use Rattle.clauses.specs.Clauses.{outputsEnd}
+use Rattle.clauses.specs.SheetCells.{Place, placeOf}
 use Rattle.clauses.specs.Shape.{fine, fineRow, fineRows, oneLayout, namedLayout, labelledLayout, manyLayout, layoutOf, notesAt, inputsFine, clausesAt, shapeOf, sizesOf, checkedShape}
 use Rattle.clauses.specs.Sizes.{differ}
 use Rattle.clauses.specs.Told.{ShapeFits}

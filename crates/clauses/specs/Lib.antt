@@ -5,5 +5,4 @@ pub mod Sizes
 pub mod Stated
 pub mod Shape
 pub mod Spelled
-pub mod Met
 pub mod Told

@@ -11,9 +11,12 @@ use Rattle.model.specs.Refusals.{Reading}
 use Rattle.model.specs.declared.Cell.the-variants.{MainDoubleCrossing, HorizontalDoubleCrossing}
 use Rattle.model.specs.declared.Refusal.the-variants.{PlaneMalformed, NoOutputClause, TooManyOutputRows, InvalidSize}
 use Rattle.cells.specs.Plane.{Plane}
-use Rattle.clauses.specs.Clauses.{mainOf, outputsEnd, allowedOf}
-use Rattle.clauses.specs.Readings.{refuse, pass}
-use Rattle.clauses.specs.SheetCells.{widthOf, regionAt, columnIs, Place, placeOf}
+use Rattle.allowed.specs.Allowed.{allowedOf}
+use Rattle.allowed.specs.Readings.{refuse}
+use Rattle.allowed.specs.SheetCells.{widthOf, regionAt, columnIs}
+use Rattle.clauses.specs.Clauses.{mainOf, outputsEnd}
+use Rattle.clauses.specs.Readings.{pass}
+use Rattle.clauses.specs.SheetCells.{Place, placeOf}
 use Rattle.clauses.specs.Sizes.{differ}
 use Rattle.clauses.specs.declared.Layout.{Layout}
 use Rattle.clauses.specs.declared.Notes.{Notes}

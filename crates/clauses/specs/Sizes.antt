@@ -8,8 +8,8 @@ use Rattle.lists.specs.Answer.{_>>=_, _>>_}
 use Rattle.lists.specs.Choose.{choose}
 use Rattle.model.specs.Refusals.{Reading}
 use Rattle.model.specs.declared.Refusal.the-variants.{InvalidSize}
+use Rattle.allowed.specs.Readings.{refuse}
 use Rattle.clauses.specs.Clauses.{Found}
-use Rattle.clauses.specs.Readings.{refuse}
 
 abbrev pub differ : ℕ → ℕ → Bool
 differ a b = not (eqb a b)

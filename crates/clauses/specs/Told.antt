@@ -1,5 +1,4 @@
 -- What the functions of the crate answer.
-use mathlib.Core.Bool.{Bool}
 use mathlib.Core.Option.{Option, none, some}
 use mathlib.Core.Path.{_≡_}
 use Prim.Native.Nat.{ℕ, _+_, _≤_, _<_}
@@ -7,10 +6,6 @@ use Rattle.lists.specs.Answer.{ok, refused}
 use Rattle.model.specs.Limits.{planeCells}
 use Rattle.model.specs.Refusals.{Reading}
 use Rattle.clauses.specs.SheetCells.{Place}
-use Rattle.clauses.specs.declared.CellRead.{CellRead}
-use Rattle.clauses.specs.declared.CellRead.the-variants.{Number, NotRead}
-use Rattle.clauses.specs.declared.Test.{Test}
-use Rattle.clauses.specs.declared.Test.the-variants.{Is, NotTold}
 use Rattle.clauses.specs.declared.Pass.{Pass}
 use Rattle.clauses.specs.declared.Pass.the-variants.{Clear, Stopped}
 use Rattle.clauses.specs.declared.Spot.{Spot}
@@ -24,14 +19,6 @@ use Rattle.clauses.specs.declared.Noted.the-variants.{Are, NotNoted}
 use Rattle.clauses.specs.declared.Shape.{Shape}
 use Rattle.clauses.specs.declared.Shaped.{Shaped}
 use Rattle.clauses.specs.declared.Shaped.the-variants.{Has, NotShaped}
-
-abbrev pub regionIn : CellRead → Reading ℕ
-regionIn (Number r) = ok r
-regionIn (NotRead r) = refused r
-
-abbrev pub testIn : Test → Reading Bool
-testIn (Is b) = ok b
-testIn (NotTold r) = refused r
 
 abbrev pub passIn : Pass → Reading (Unit {0})
 passIn Clear = ok tt

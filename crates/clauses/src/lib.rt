@@ -1,239 +1,19 @@
 // The clause rules on an upright sheet: every refusal in its order, and where everything stands.
+use allowed::CellRead;
+use allowed::Test;
 use model::Cell;
-use model::CellRegion;
 use model::Refusal;
-use model::limits::PLANE_CELLS;
-use model::limits::PLANE_ROWS;
-ghost use mathlib.Core.Bool.{true};
-ghost use mathlib.Core.List.{[]};
 ghost use mathlib.Core.Path.{_≡_};
-ghost use Prim.Native.Nat.{_+_, _-_, _≤_, _<_};
-ghost use lib.ListN.{length};
-ghost use Rattle.lists.specs.OneOf.{oneOf};
-ghost use Rattle.model.specs.Limits.{planeRows, planeCells, planeSize};
+ghost use Prim.Native.Nat.{_+_, _≤_, _<_};
+ghost use Rattle.model.specs.Limits.{planeRows, planeCells};
 ghost use Rattle.cells.specs.Plane.{planeIn, rowIn, PlaneFits};
-ghost use Rattle.clauses.specs.SheetCells.{widthOf, regionAt, columnIs, columnsAre, meetRow, allApart, placeInRow, placeOf};
-ghost use Rattle.clauses.specs.Clauses.{allowedBy, allowedTwo, allowedThree, allowedOf, outputsEnd};
+ghost use Rattle.allowed.specs.SheetCells.{widthOf};
+ghost use Rattle.clauses.specs.SheetCells.{placeInRow, placeOf};
+ghost use Rattle.clauses.specs.Clauses.{outputsEnd};
 ghost use Rattle.clauses.specs.Shape.{fineRow, fineRows, oneLayout, namedLayout, labelledLayout, manyLayout, layoutOf, notesAt, inputsFine, clausesAt, shapeOf, sizesOf, checkedShape};
-ghost use Rattle.clauses.specs.Met.{met, metAbove, metIn};
-ghost use Rattle.clauses.specs.Told.{regionIn, testIn, passIn, placeIn, SpotWithin, SpotInColumn, layoutIn, notesIn, NotesFit, ShapeFits, ShapedFits, shapeIn};
+ghost use Rattle.clauses.specs.Told.{passIn, placeIn, SpotWithin, SpotInColumn, layoutIn, notesIn, NotesFit, ShapeFits, ShapedFits, shapeIn};
 ghost use Rattle.clauses.specs.declared.Spot.the-variants.{At};
 ghost use Rattle.clauses.specs.declared.Pass.the-variants.{Clear};
-
-// A cell's region, or why it has none.
-pub enum CellRead {
-    Number(usize),
-    NotRead(Refusal),
-}
-
-// The region of the cell in row y, column x.
-pub fn region_at(plane: &[u32], rows: usize, y: usize, x: usize) -> CellRead
-    requires { ⌜ PlaneFits (now plane) rows ⌝ }
-    ensures { λ r. ⌜ regionIn r ≡ regionAt (planeIn (now (plane .entry)) rows) y x ⌝ }
-{
-    if rows <= y {
-        return CellRead::NotRead(Refusal::CellOutOfRange(y, x));
-    }
-    if plane[y] as usize <= x {
-        return CellRead::NotRead(Refusal::CellOutOfRange(y, x));
-    }
-    match model::region_of(cells::cell_at(plane, y, x)) {
-        CellRegion::Number(r) => CellRead::Number(r),
-        CellRegion::NoRegion => CellRead::NotRead(Refusal::CellNotRegion(y, x)),
-    }
-}
-
-// A fact of cells, or why it cannot be told.
-enum Test {
-    Is(bool),
-    NotTold(Refusal),
-}
-
-// Whether the cells of rows top and top + 1 in column x are of one region (joined), or of two.
-fn column_is(plane: &[u32], rows: usize, joined: bool, top: usize, x: usize) -> Test
-    requires { ⌜ PlaneFits (now plane) rows × (top < planeRows) ⌝ }
-    ensures { λ r. ⌜ testIn r ≡ columnIs joined (planeIn (now (plane .entry)) rows) top x ⌝ }
-{
-    let a = match region_at(plane, rows, top, x) {
-        CellRead::Number(r) => r,
-        CellRead::NotRead(r) => return Test::NotTold(r),
-    };
-    let b = match region_at(plane, rows, top + 1, x) {
-        CellRead::Number(r) => r,
-        CellRead::NotRead(r) => return Test::NotTold(r),
-    };
-    if a == b {
-        return Test::Is(joined);
-    }
-    Test::Is(!joined)
-}
-
-// So in each of the n columns from x on.
-fn columns_are(plane: &[u32], rows: usize, joined: bool, top: usize, x: usize, n: usize) -> Test
-    requires { ⌜ PlaneFits (now plane) rows × (top < planeRows) × (x + n ≤ 128) ⌝ }
-    ensures { λ r. ⌜ testIn r ≡ columnsAre joined (planeIn (now (plane .entry)) rows) top x n ⌝ }
-{
-    let mut i = 0;
-    while i < n {
-        match column_is(plane, rows, joined, top, x + i) {
-            Test::Is(t) => {
-                if !t {
-                    return Test::Is(false);
-                }
-            }
-            Test::NotTold(r) => return Test::NotTold(r),
-        }
-        i += 1;
-    }
-    Test::Is(true)
-}
-
-// Whether region a is among the n cells of row y from column x on.
-fn is_among(plane: &[u32], y: usize, x: usize, n: usize, a: usize) -> bool
-    requires { ⌜ (planeSize ≤ length (now plane)) × (y < planeRows) × (x + n ≤ planeCells) ⌝ }
-    ensures { λ r. ⌜ r ≡ oneOf a (met (now (plane .entry)) y x n []) ⌝ }
-{
-    let mut i = 0;
-    while i < n {
-        if (plane[PLANE_ROWS + y * PLANE_CELLS + (x + i)] / 8) as usize == a {
-            return true;
-        }
-        i += 1;
-    }
-    false
-}
-
-// Whether region a stands before the i-th of n cells of row y, or in the row above.
-fn is_met(plane: &[u32], y: usize, x: usize, n: usize, i: usize, a: usize, above: bool) -> bool
-    requires { ⌜ (planeSize ≤ length (now plane)) × (y < planeRows) × (x + n ≤ planeCells) × (i ≤ n) ⌝ }
-    requires { ⌜ (above ≡ true → 1 ≤ y) ⌝ }
-    ensures { λ r. ⌜ r ≡ oneOf a (met (now (plane .entry)) y x i (metAbove above (now (plane .entry)) y x n)) ⌝ }
-{
-    if is_among(plane, y, x, i, a) {
-        return true;
-    }
-    if above {
-        return is_among(plane, y - 1, x, n, a);
-    }
-    false
-}
-
-// Whether no region stands twice in the n cells of row y from column x on nor, if above, in the row above.
-fn row_apart(plane: &[u32], rows: usize, y: usize, x: usize, n: usize, above: bool) -> Test
-    requires { ⌜ PlaneFits (now plane) rows × (y < planeRows) × (x + n ≤ planeCells) ⌝ }
-    requires { ⌜ (above ≡ true → 1 ≤ y) ⌝ }
-    ensures { λ r. ⌜ meetRow (planeIn (now (plane .entry)) rows) y x n (metAbove above (now (plane .entry)) y x n) ≡ metIn r (met (now (plane .entry)) y x n (metAbove above (now (plane .entry)) y x n)) ⌝ }
-{
-    let mut i = 0;
-    while i < n {
-        match region_at(plane, rows, y, x + i) {
-            CellRead::Number(a) => {
-                if is_met(plane, y, x, n, i, a, above) {
-                    return Test::Is(false);
-                }
-            }
-            CellRead::NotRead(r) => return Test::NotTold(r),
-        }
-        i += 1;
-    }
-    Test::Is(true)
-}
-
-// Whether no region stands twice in rows 0 and 1, in the n columns from x on.
-fn two_apart(plane: &[u32], rows: usize, x: usize, n: usize) -> Test
-    requires { ⌜ PlaneFits (now plane) rows × (x + n ≤ planeCells) ⌝ }
-    ensures { λ r. ⌜ testIn r ≡ allApart (planeIn (now (plane .entry)) rows) 2 x n ⌝ }
-{
-    match row_apart(plane, rows, 0, x, n, false) {
-        Test::Is(t) => {
-            if t {
-                return row_apart(plane, rows, 1, x, n, true);
-            }
-            Test::Is(false)
-        }
-        Test::NotTold(r) => Test::NotTold(r),
-    }
-}
-
-// Whether there are allowed values, by the five facts for two clause rows.
-fn allowed_by(inputs: bool, has: bool, several: bool, outputs: bool, apart: bool) -> bool
-    ensures { λ r. ⌜ r ≡ allowedBy inputs has several outputs apart ⌝ }
-{
-    if !inputs {
-        return true;
-    }
-    if has {
-        return false;
-    }
-    if !several {
-        return false;
-    }
-    if outputs {
-        return true;
-    }
-    apart
-}
-
-// With two clause rows.
-fn allowed_two(plane: &[u32], rows: usize, n: usize, m: usize) -> Test
-    requires { ⌜ PlaneFits (now plane) rows × (n + 1 + m ≤ planeCells) ⌝ }
-    ensures { λ r. ⌜ testIn r ≡ allowedTwo (planeIn (now (plane .entry)) rows) n m ⌝ }
-{
-    let inputs = match columns_are(plane, rows, true, 0, 0, n) {
-        Test::Is(t) => t,
-        Test::NotTold(r) => return Test::NotTold(r),
-    };
-    let outputs = match columns_are(plane, rows, true, 0, n + 1, m) {
-        Test::Is(t) => t,
-        Test::NotTold(r) => return Test::NotTold(r),
-    };
-    let apart = match two_apart(plane, rows, n + 1, m) {
-        Test::Is(t) => t,
-        Test::NotTold(r) => return Test::NotTold(r),
-    };
-    Test::Is(allowed_by(inputs, 0 < n, 1 < m, outputs, apart))
-}
-
-// With three clause rows.
-fn allowed_three(plane: &[u32], rows: usize, n: usize, m: usize) -> Test
-    requires { ⌜ PlaneFits (now plane) rows × (n + 1 + m ≤ planeCells) ⌝ }
-    ensures { λ r. ⌜ testIn r ≡ allowedThree (planeIn (now (plane .entry)) rows) n m ⌝ }
-{
-    match columns_are(plane, rows, false, 1, 0, n) {
-        Test::Is(t) => {
-            if !t {
-                return Test::NotTold(Refusal::InvalidInputExpressions);
-            }
-        }
-        Test::NotTold(r) => return Test::NotTold(r),
-    }
-    match columns_are(plane, rows, false, 1, n + 1, m) {
-        Test::Is(t) => {
-            if !t {
-                return Test::NotTold(Refusal::InvalidOutputExpressions);
-            }
-        }
-        Test::NotTold(r) => return Test::NotTold(r),
-    }
-    Test::Is(true)
-}
-
-// Whether n inputs and m outputs have allowed values under h clause rows.
-fn allowed(plane: &[u32], rows: usize, n: usize, m: usize, h: usize) -> Test
-    requires { ⌜ PlaneFits (now plane) rows × (n + 1 + m ≤ planeCells) ⌝ }
-    ensures { λ r. ⌜ testIn r ≡ allowedOf (planeIn (now (plane .entry)) rows) n m h ⌝ }
-{
-    if h == 1 {
-        return Test::Is(false);
-    }
-    if h == 2 {
-        return allowed_two(plane, rows, n, m);
-    }
-    if h == 3 {
-        return allowed_three(plane, rows, n, m);
-    }
-    Test::NotTold(Refusal::ClauseRows(h))
-}
 
 // Cells are regions, or why not.
 enum Pass {
@@ -248,7 +28,7 @@ fn pass_row(plane: &[u32], rows: usize, y: usize, x: usize, n: usize) -> Pass
 {
     let mut i = 0;
     while i < n {
-        match region_at(plane, rows, y, x + i) {
+        match allowed::region_at(plane, rows, y, x + i) {
             CellRead::Number(_) => {}
             CellRead::NotRead(r) => return Pass::Stopped(r),
         }
@@ -330,7 +110,7 @@ fn lay_one(plane: &[u32], rows: usize, x: usize, h: usize) -> LaidOut
     ensures { λ r. ⌜ layoutIn r ≡ oneLayout (planeIn (now (plane .entry)) rows) x h ⌝ }
 {
     if h == 1 {
-        return match region_at(plane, rows, 0, x) {
+        return match allowed::region_at(plane, rows, 0, x) {
             CellRead::Number(_) => LaidOut::As(Layout {
                 labelled: true,
                 named: false,
@@ -340,7 +120,7 @@ fn lay_one(plane: &[u32], rows: usize, x: usize, h: usize) -> LaidOut
         };
     }
     if h == 2 {
-        return match column_is(plane, rows, false, 0, x) {
+        return match allowed::column_is(plane, rows, false, 0, x) {
             Test::Is(t) => LaidOut::As(Layout {
                 labelled: t,
                 named: false,
@@ -379,7 +159,7 @@ fn lay_labelled(plane: &[u32], rows: usize, x: usize, m: usize, valued: bool) ->
     requires { ⌜ PlaneFits (now plane) rows × (x + m ≤ 128) ⌝ }
     ensures { λ r. ⌜ layoutIn r ≡ labelledLayout (planeIn (now (plane .entry)) rows) x m valued ⌝ }
 {
-    match region_at(plane, rows, 0, x) {
+    match allowed::region_at(plane, rows, 0, x) {
         CellRead::Number(_) => {}
         CellRead::NotRead(r) => return LaidOut::NotLaidOut(r),
     }
@@ -535,7 +315,7 @@ fn clauses_at(plane: &[u32], rows: usize, n: usize, m: usize, h: usize, notes: S
     ensures shape { λ r. ⌜ shapeIn r ≡ clausesAt (planeIn (now (plane .entry)) rows) n m h (placeIn notes) ⌝ }
     ensures fits { λ r. ⌜ ShapedFits r rows 0 ⌝ }
 {
-    let values = match allowed(plane, rows, n, m, h) {
+    let values = match allowed::allowed(plane, rows, n, m, h) {
         Test::Is(t) => t,
         Test::NotTold(r) => return Shaped::NotShaped(r),
     };

@@ -8,8 +8,8 @@ use Rattle.unicode.specs.Lines.{lines, texts, lastOf}
 use Rattle.unicode.specs.Trim.{trimStart, trimEnd, trim, trimStartUtf8, trimUtf8}
 use Rattle.unicode.specs.Utf8.{more, by, decode, check, read, encode, encodes}
 use Rattle.unicode.specs.White.{among}
-use Rattle.utils.specs.Commas.{parts}
-use Rattle.utils.specs.Emphasis.{startsWith, endsWith, stripStart, stripEnd, strip, emphasised, firstMarked}
+use Rattle.emphasis.specs.Commas.{parts}
+use Rattle.emphasis.specs.Emphasis.{startsWith, endsWith, stripStart, stripEnd, strip, emphasised, firstMarked}
 use Rattle.utils.specs.Split.{replaceAll, valuesOf}
 use Rattle.outline.specs.Outline.{searchFrom, namedBy, outlineBy}
 use Rattle.placement.specs.Placement.{counted}

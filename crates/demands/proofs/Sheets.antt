@@ -19,9 +19,12 @@ use Rattle.placement.specs.Orientation.{holdsIn, holds, orientedOf}
 use Rattle.placement.specs.Placement.{last, placeBehind, placementOf, counted, ruleNumbersOf}
 use Rattle.turning.specs.Upright.{uprightOf}
 use Rattle.plane.specs.Sheet.{statedSheet}
-use Rattle.clauses.specs.Clauses.{allowedOf, textAt, optionalAt, entriesOf, oneOutput, outputsOf, notesOf, foundFrom}
-use Rattle.clauses.specs.Readings.{along, every}
-use Rattle.clauses.specs.SheetCells.{regionAt, placeInRow, placeFrom}
+use Rattle.allowed.specs.Allowed.{allowedOf}
+use Rattle.allowed.specs.Readings.{every}
+use Rattle.allowed.specs.SheetCells.{regionAt}
+use Rattle.clauses.specs.Clauses.{textAt, optionalAt, entriesOf, oneOutput, outputsOf, notesOf, foundFrom}
+use Rattle.clauses.specs.Readings.{along}
+use Rattle.clauses.specs.SheetCells.{placeInRow, placeFrom}
 use Rattle.clauses.specs.Sizes.{uneven, sized}
 use Rattle.clauses.specs.Stated.{statedBy, clausesOf}
 use Rattle.recognizer.specs.StatedPolicy.{sheetPolicy, statedPolicy}

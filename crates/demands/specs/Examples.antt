@@ -17,7 +17,7 @@ use Rattle.model.specs.declared.BuiltinAggregator.the-variants.{Min}
 use Rattle.model.specs.declared.Cell.the-variants.{Region}
 use Rattle.model.specs.declared.HitPolicy.the-variants.{Collect}
 use Rattle.model.specs.declared.Refusal.the-variants.{CharactersNotFound, InvalidRuleNumber}
-use Rattle.clauses.specs.Clauses.{allowedBy}
+use Rattle.allowed.specs.Allowed.{allowedBy}
 use Rattle.placement.specs.Placement.{counted}
 use Rattle.unicode.specs.Utf8.{encodes}
 use Rattle.utils.specs.Split.{valuesOf}

@@ -33,8 +33,8 @@ use Rattle.step.specs.PlaneStep.{planeOf}
 use Rattle.step.specs.declared.PlaneMade.{PlaneMade}
 use Rattle.step.specs.declared.PlaneMade.the-variants.{Made, NotMade}
 use Rattle.print.specs.Lines.{refusedLine}
-use Rattle.print.specs.Planes.{planeLines}
-use Rattle.print.specs.Drawings.{layersLines, countedLines, nameLine, Layer, Texts, Regions}
+use Rattle.sketch.specs.Planes.{planeLines}
+use Rattle.sketch.specs.Drawings.{layersLines, countedLines, nameLine, Layer, Texts, Regions}
 use Rattle.drawings.specs.DrawingLines.{planePrinted, regionsLines, drawingLines}
 
 drawn-fits : (rs : List (List ℕ)) (o : Outline) → drawingOf rs ≡ ok o → fits rs ≡ true

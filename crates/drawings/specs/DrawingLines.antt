@@ -13,8 +13,8 @@ use Rattle.canvas.specs.Layers.{textLayer, thinLayer, bodyLayer, gridLayer, she
 use Rattle.canvas.specs.RegionTexts.{Regions, regionTextsOf}
 use Rattle.step.specs.PlaneStep.{planeOf}
 use Rattle.print.specs.Lines.{refusedLine}
-use Rattle.print.specs.Drawings.{layersLines, countedLines, nameLine}
-use Rattle.print.specs.Planes.{planeLines}
+use Rattle.sketch.specs.Drawings.{layersLines, countedLines, nameLine}
+use Rattle.sketch.specs.Planes.{planeLines}
 
 -- the plane, or why there is none
 abbrev pub planePrinted : Reading Plane → List ℕ

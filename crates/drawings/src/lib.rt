@@ -12,8 +12,8 @@ ghost use Rattle.step.specs.Made.{StepRoom};
 ghost use Rattle.step.specs.PlaneStep.{planeOf};
 ghost use Rattle.canvas.specs.RegionTexts.{regionTextsOf};
 ghost use Rattle.print.specs.Decimal.{Written};
-ghost use Rattle.print.specs.Drawings.{Layer};
-ghost use Rattle.print.specs.Planes.{planeBytes};
+ghost use Rattle.sketch.specs.Drawings.{Layer};
+ghost use Rattle.sketch.specs.Planes.{planeBytes};
 ghost use Rattle.lines.specs.Room.{lineBytes};
 ghost use Rattle.drawings.specs.DrawingLines.{planePrinted, regionsLines, regionsBytes, drawingLines};
 
@@ -33,7 +33,7 @@ fn put_step(
 {
     let mut plane = [0u32; 4160];
     match step::make_plane(o, grid, w, h, rects, count, &mut plane) {
-        PlaneMade::Made(n) => print::put_plane(out, at, &plane, n),
+        PlaneMade::Made(n) => sketch::put_plane(out, at, &plane, n),
         PlaneMade::NotMade(r) => print::put_refusal(out, at, r),
     }
 }
@@ -57,8 +57,8 @@ fn put_regions(
     let mut spans = [0u32; 2048];
     match canvas::read_regions(text, thins, w, h, &mut rects, &mut bytes, &mut spans) {
         RegionsRead::Read(n, _) => {
-            let a = print::put_regions(out, at, &rects, &bytes, &spans, n);
-            let b = print::put_name(out, a, &bytes, &spans, n, o.named);
+            let a = sketch::put_regions(out, at, &rects, &bytes, &spans, n);
+            let b = sketch::put_name(out, a, &bytes, &spans, n, o.named);
             put_step(out, b, o, grid, w, h, &rects, n)
         }
         RegionsRead::NotRead(r) => print::put_refusal(out, at, r),
@@ -76,7 +76,7 @@ pub fn put_drawing(out: &mut [u8], at: usize, s: &[u8]) -> usize
     let mut grid = [0u32; CANVAS_SIZE];
     match canvas::draw_sheet(s, &mut text, &mut thins, &mut bodies, &mut grid) {
         Drawing::Drawn(h, w, _, o) => {
-            let a = print::put_layers(out, at, &text, &thins, &bodies, &grid, w, h);
+            let a = sketch::put_layers(out, at, &text, &thins, &bodies, &grid, w, h);
             put_regions(out, a, o, &text, &thins, &grid, w, h)
         }
         Drawing::NotDrawn(r) => print::put_refusal(out, at, r),

@@ -16,8 +16,8 @@ use Rattle.record.specs.Record.{bytesOf}
 use Rattle.utils.specs.Split.{valuesOf}
 use Rattle.utils.proofs.Answers.{split-length}
 use Rattle.utils.proofs.DefaultLength.{default-length}
+use Rattle.allowed.specs.SheetCells.{regionAt}
 use Rattle.clauses.specs.Clauses.{present}
-use Rattle.clauses.specs.SheetCells.{regionAt}
 use Rattle.clauses.specs.Spelled.{joinRun, readOr, cellText, whole, optional, rowTexts, firstOutput, valuesRow, namesRow, labelText, inputText, valuesText, outputText, noteTexts, entryTexts, spelled}
 use Rattle.clauses.specs.Stated.{allowedText, defaultText}
 use Rattle.clauses.specs.declared.Shape.{Shape}

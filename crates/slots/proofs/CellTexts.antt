@@ -22,9 +22,9 @@ use Rattle.cells.specs.Plane.{cellAt, planeIn}
 use Rattle.cells.specs.Spans.{offsetAt, lengthAt, textIn}
 use Rattle.cells.specs.Held.{Held}
 use Rattle.cells.proofs.SpanLaws.{text-in}
-use Rattle.clauses.specs.SheetCells.{widthOf, regionAt}
+use Rattle.allowed.specs.SheetCells.{widthOf, regionAt}
+use Rattle.allowed.proofs.CellLaws.{width-in, width-out, cell-in}
 use Rattle.clauses.specs.Spelled.{readOr, cellText}
-use Rattle.clauses.proofs.CellLaws.{width-in, width-out, cell-in}
 
 -- a region that is read stands in a cell of the slice
 module _ (d : List ℕ) (n y x k : ℕ) where

@@ -1,5 +1,5 @@
 // The texts of an upright sheet as slots of a work slice, three numbers each, in record order.
-use clauses::CellRead;
+use allowed::CellRead;
 use clauses::Shape;
 use record::ABSENT;
 use record::PART;
@@ -143,7 +143,7 @@ fn part_at(
     ensures text { λ r. ⌜ partOf (now (bytes .entry)) r ≡ cellText (textIn (now (bytes .entry)) (now (spans .entry)) count) (planeIn (now (plane .entry)) rows) y x ⌝ }
     ensures inside { λ r. ⌜ PartIn r (now (bytes .entry)) ⌝ }
 {
-    match clauses::region_at(plane, rows, y, x) {
+    match allowed::region_at(plane, rows, y, x) {
         CellRead::Number(k) => Part {
             offset: spans[k * 2],
             size: spans[k * 2 + 1],

@@ -18,14 +18,14 @@ use Rattle.model.specs.declared.Refusal.the-variants.{InvalidUtf8, OutputSliceS
 use Rattle.unicode.specs.Utf8.{checked, onText}
 use Rattle.unicode.specs.declared.Checked.{Checked}
 use Rattle.unicode.specs.declared.Checked.the-variants.{Valid, Invalid}
-use Rattle.utils.specs.Commas.{parts}
-use Rattle.utils.specs.Emphasis.{Choice, plain, marked}
-use Rattle.utils.specs.Found.{FoundIn}
-use Rattle.utils.specs.Split.{replaceAll, Values, choiceOf, valuesBy, valuesOf, splitBy, splitOf, scratchBy, scratchOf, answered, Places, allowedIn, MeasuredOf}
+use Rattle.emphasis.specs.Commas.{parts}
+use Rattle.emphasis.specs.Emphasis.{Choice, plain, marked, choiceOf}
+use Rattle.emphasis.specs.Found.{FoundIn}
+use Rattle.emphasis.proofs.Finding.{between, Sized, first-sized}
+use Rattle.utils.specs.Split.{replaceAll, Values, valuesBy, valuesOf, splitBy, splitOf, scratchBy, scratchOf, answered, Places, allowedIn, MeasuredOf}
 use Rattle.utils.specs.declared.Measured.the-variants.{Plain, Marked}
 use Rattle.utils.specs.declared.Split.{Split}
 use Rattle.utils.specs.declared.Split.the-variants.{Own, Rewritten, NotSplit}
-use Rattle.utils.proofs.Finding.{between, Sized, first-sized}
 use Rattle.utils.proofs.Replacing.{replace-length}
 
 -- what `split_text` promises of its answer r, where the slice d has become o

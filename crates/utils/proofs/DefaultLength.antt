@@ -13,10 +13,10 @@ use Rattle.lists.proofs.Tests.{by-flag}
 use Rattle.unicode.specs.Lines.{join}
 use Rattle.unicode.specs.Trim.{trimStartUtf8, trimUtf8}
 use Rattle.unicode.proofs.TrimLength.{trim-length}
-use Rattle.utils.specs.Commas.{comma, parts}
-use Rattle.utils.specs.Emphasis.{Choice, plain, marked, marks, placed, orElse, startsWith, endsWith, emphasised, firstMarked}
-use Rattle.utils.specs.Split.{choiceOf, valuesBy, valuesOf}
-use Rattle.utils.proofs.Stripping.{strip-length}
+use Rattle.emphasis.specs.Commas.{comma, parts}
+use Rattle.emphasis.specs.Emphasis.{Choice, plain, marked, marks, placed, orElse, startsWith, endsWith, emphasised, firstMarked, choiceOf}
+use Rattle.emphasis.proofs.Stripping.{strip-length}
+use Rattle.utils.specs.Split.{valuesBy, valuesOf}
 
 -- texts of at most m bytes
 abbrev UpTo : ℕ → List ℕ → Type 0

@@ -11,10 +11,10 @@ use Rattle.lists.specs.Put.{put}
 use Rattle.lists.proofs.Parts.{at-cons}
 use Rattle.lists.proofs.PutLaws.{put-nil, put-next}
 use Rattle.lists.proofs.Tests.{by-flag}
-use Rattle.utils.specs.Emphasis.{startsWith}
-use Rattle.utils.specs.Periods.{FirstPlace}
+use Rattle.emphasis.specs.Emphasis.{startsWith}
+use Rattle.emphasis.proofs.StartsWith.{starts-fits, starts-inside}
+use Rattle.search.specs.Periods.{FirstPlace}
 use Rattle.utils.specs.Split.{replaceAll}
-use Rattle.utils.proofs.StartsWith.{starts-fits, starts-inside}
 
 skip-replace : (k : ℕ) (p q s : List ℕ) → replaceAll k p q s ≡ replaceAll 0 p q (drop k s)
 unfolding replaceAll

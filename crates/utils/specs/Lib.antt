@@ -1,5 +1,1 @@
-pub mod Commas
-pub mod Emphasis
 pub mod Split
-pub mod Found
-pub mod Periods

@@ -11,8 +11,7 @@ use Rattle.lists.specs.Put.{put}
 use Rattle.model.specs.Refusals.{Reading}
 use Rattle.model.specs.declared.Refusal.the-variants.{InvalidUtf8, OutputSliceShort}
 use Rattle.unicode.specs.Utf8.{checked, onText}
-use Rattle.utils.specs.Commas.{parts}
-use Rattle.utils.specs.Emphasis.{Choice, plain, marked, startsWith, firstMarked}
+use Rattle.emphasis.specs.Emphasis.{Choice, plain, marked, startsWith, choiceOf}
 use Rattle.utils.specs.declared.Measured.{Measured}
 use Rattle.utils.specs.declared.Measured.the-variants.{Plain, Marked}
 use Rattle.utils.specs.declared.Split.{Split}
@@ -28,10 +27,6 @@ replaceAll zero p q (c ∷ s) = choose (startsWith p (c ∷ s)) (q ++ replaceAll
 pub record Values : Type 0 where
   pub allowed : List ℕ
   pub default : Option (List ℕ)
-
--- the part of a text that decides
-abbrev pub choiceOf : List ℕ → Choice
-choiceOf t = firstMarked 0 (parts t)
 
 abbrev pub valuesBy : Choice → List ℕ → Values
 valuesBy plain t = record { allowed = t; default = none }

@@ -24,7 +24,8 @@ use Rattle.record.proofs.RecordTellsPolicy.{length-encode}
 use Rattle.record.proofs.Texts.{length-packed}
 use Rattle.record.proofs.TotalFits.{total-fits}
 use Rattle.record.proofs.Writing.{with-none, length-with, with-next, text-fits, begun-whole, begun-short, headed-short, standing-start, standing-next, standing-end}
-use Rattle.utils.specs.Split.{choiceOf, valuesOf, splitBy, answered, allowedIn}
+use Rattle.emphasis.specs.Emphasis.{choiceOf}
+use Rattle.utils.specs.Split.{valuesOf, splitBy, answered, allowedIn}
 use Rattle.utils.specs.declared.Split.{Split}
 use Rattle.utils.proofs.Answers.{allowed-in, split-length, split-fits}
 use Rattle.writer.specs.PartsHeld.{PartsHeld}

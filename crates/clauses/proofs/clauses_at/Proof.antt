@@ -2,7 +2,7 @@
 use mathlib.Core.Path.{sym}
 use native.Mathlib.Omega.{arith}
 use borrow.Author.Needs.{needs}
-use Rattle.clauses.proofs.AllowedLaws.{some-rows}
+use Rattle.allowed.proofs.AllowedLaws.{some-rows}
 use Rattle.clauses.proofs.ShapeLaws.{at-allowed, at-inputs, at-layout, at-outputs, at-notes, at-shape}
 use Rattle.clauses.proofs.clauses_at.Statement.{statement}
 use Rattle.clauses.proofs.clauses_at.Tie as tie

@@ -5,7 +5,7 @@ use native.Mathlib.Omega.{arith}
 use borrow.Author.Needs.{needs}
 use Rattle.lists.specs.Answer.{ok}
 use Rattle.cells.specs.Plane.{planeIn}
-use Rattle.clauses.specs.SheetCells.{regionAt}
+use Rattle.allowed.specs.SheetCells.{regionAt}
 use Rattle.slots.proofs.CellTexts.{region-among, read-text, unread-text}
 use Rattle.slots.proofs.part_at.Statement.{statement}
 use Rattle.slots.proofs.part_at.Tie as tie

@@ -3,8 +3,8 @@ use Prim.Native.Nat.{_-_}
 use native.Mathlib.Omega.{arith}
 use borrow.Author.Needs.{needs}
 use lib.ListN.{length}
+use Rattle.search.proofs.Searching.{found-here}
 use Rattle.utils.proofs.Replacing.{Measuring, measuring-start, measuring-end, measuring-copy, measuring-fits, measuring-hit}
-use Rattle.utils.proofs.Searching.{found-here}
 use Rattle.utils.proofs.measure.Statement.{statement}
 use Rattle.utils.proofs.measure.Tie as tie
 

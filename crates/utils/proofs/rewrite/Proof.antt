@@ -3,8 +3,8 @@ use Prim.Native.Nat.{_-_}
 use native.Mathlib.Omega.{arith}
 use borrow.Author.Needs.{needs}
 use lib.ListN.{length}
+use Rattle.search.proofs.Searching.{found-here}
 use Rattle.utils.proofs.Replacing.{Rewriting, rewriting-start, rewriting-end, rewriting-room, rewriting-reach, rewriting-copy, rewriting-inside, rewriting-fits, rewriting-hit}
-use Rattle.utils.proofs.Searching.{found-here}
 use Rattle.utils.proofs.rewrite.Statement.{statement}
 use Rattle.utils.proofs.rewrite.Tie as tie
 

@@ -1,0 +1,5 @@
+pub mod Readings
+pub mod SheetCells
+pub mod Allowed
+pub mod Met
+pub mod Told

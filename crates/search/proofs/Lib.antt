@@ -1,0 +1,6 @@
+-- Laws of the search.
+pub mod Shifting
+pub mod Searching
+pub mod Entries
+pub mod Settling
+pub mod Building

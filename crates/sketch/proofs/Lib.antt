@@ -1,0 +1,4 @@
+-- Laws of what is printed of a drawing.
+pub mod LayerLaws
+pub mod RegionLaws
+pub mod PlaneLaws
