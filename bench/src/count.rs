@@ -27,6 +27,9 @@ impl Side {
 const CALLS: u64 = 3;
 const SHOWN: usize = 6;
 
+/// memset without `rep stosb`, of which callgrind counts an instruction a byte.
+const MEMSET: (&str, &str) = ("GLIBC_TUNABLES", "glibc.cpu.x86_rep_stosb_threshold=1000000000");
+
 /// The instructions of a call, and the profile of all calls.
 pub struct Counted {
     pub instructions: u64,
@@ -48,6 +51,7 @@ pub fn counted(name: &str, side: Side) -> Result<Counted, String> {
     let profile = Profile(std::env::temp_dir().join(file));
     let program = std::env::current_exe().map_err(|error| error.to_string())?;
     let run = Command::new("valgrind")
+        .env(MEMSET.0, MEMSET.1)
         .args(["--tool=callgrind", &format!("--toggle-collect=ask_{}", side.name())])
         .arg(format!("--callgrind-out-file={}", profile.0.display()))
         .arg(program)
