@@ -117,3 +117,45 @@ pub fn input(name: &str) -> Option<Input> {
     };
     named(name).map(|case| case.input).or_else(grown)
 }
+
+#[cfg(test)]
+mod tests {
+    use super::{GROWTHS, Input, NAMES, input, named};
+    use judge::canvas::{collected, regions_of, width};
+    use judge::limits::RECORD_BYTES;
+    use judge::outcome::Outcome;
+    use judge::sheet::judge_sheet;
+
+    fn sheet(name: &str) -> String {
+        match input(name) {
+            Some(Input::Sheet(text)) => text,
+            _ => panic!("{name} is no sheet"),
+        }
+    }
+
+    #[test]
+    fn every_name_is_known() {
+        assert!(NAMES.into_iter().all(|name| named(name).is_some()));
+        assert!(named("rows-8").is_none());
+    }
+
+    #[test]
+    fn the_largest_sheet_is_at_every_limit() {
+        let rows = collected(&sheet("largest"));
+        let regions = regions_of(&rows).expect("regions").0.len();
+        assert_eq!((rows.len(), width(&rows), regions), (96, 160, 1_024));
+    }
+
+    #[test]
+    fn every_sheet_that_grows_is_taken() {
+        for growth in GROWTHS {
+            for size in growth.sizes {
+                let text = sheet(&format!("{}-{size}", growth.name));
+                let outcome = judge_sheet(text.as_bytes(), RECORD_BYTES).expect("no fault");
+                assert!(matches!(outcome, Outcome::Record(_)), "{text}");
+                let regions = regions_of(&collected(&text)).expect("regions").0.len();
+                assert!(growth.name != "regions" || regions == growth.count(*size));
+            }
+        }
+    }
+}

@@ -76,9 +76,9 @@ impl Times {
             Some(goal) => format!("{goal} {}", if self.is_met() { "met" } else { "NOT MET" }),
             None => String::new(),
         };
-        let [port, rust] = [&self.port, &self.rust].map(|side| side.shown(1));
-        let [clear, ratio] = [format!("{:.1}", self.clear.median), self.ratio.shown(2)];
-        println!("{:<22} {port:>28} {clear:>9} {rust:>28} {ratio:>24}  {goal}", self.name);
+        let [port, rust] = [&self.port, &self.rust].map(|side| side.shown(2));
+        let [clear, ratio] = [format!("{:.2}", self.clear.median), self.ratio.shown(2)];
+        println!("{:<22} {port:>30} {clear:>9} {rust:>30} {ratio:>24}  {goal}", self.name);
     }
 }
 
@@ -88,7 +88,7 @@ pub fn print_head() {
     );
     println!("Rust/port: the median of the rounds' ratios (quartiles).");
     let [port, clear, rust, ratio] = ["port", "clearing", "Rust", "Rust/port"];
-    println!("{:<22} {port:>28} {clear:>9} {rust:>28} {ratio:>24}  goal", "");
+    println!("{:<22} {port:>30} {clear:>9} {rust:>30} {ratio:>24}  goal", "");
 }
 
 /// One round of a side: a first call where the caches are warm, then the timed one.
@@ -113,7 +113,7 @@ pub fn times(case: &Case, caches: &mut Caches) -> Times {
             (call, round(caches, &mut port, Port::ready, Port::clear))
         };
         let mut by_rust = |caches: &mut Caches| round(caches, &mut rust, Rust::ready, Rust::ask);
-        let ((call, clear), rust) = if rounds.len() % 2 == 0 {
+        let ((call, clear), rust) = if rounds.len().is_multiple_of(2) {
             (by_port(caches), by_rust(caches))
         } else {
             let rust = by_rust(caches);
