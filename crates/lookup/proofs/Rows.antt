@@ -6,6 +6,7 @@
 use mathlib.Core.Path.{_≡_, refl, sym}
 use Prim.Native.Nat.{ℕ, zero, suc, _*_, _<_, _^_}
 use native.Mathlib.Omega.{arith}
+use mathlib.Core.Bool.{Bool, true, false, not}
 use mathlib.Core.List.{List, [], _∷_}
 use lib.Dec.{T as Holds, lit<}
 use lib.ListN.{length, replicate, length-replicate}
@@ -51,6 +52,15 @@ rest-of (switch c a) = skipᴹ
 rest-of (exit n) = skipᴹ
 rest-of return = skipᴹ
 rest-of (call f xs d) = skipᴹ
+
+-- what a branch tells of its test
+pub holds : (t : Bool) → Holds t → t ≡ true
+holds true h = refl
+holds false h = absurd h
+
+pub fails : (t : Bool) → Holds (not t) → t ≡ false
+fails true h = absurd h
+fails false h = refl
 
 -- the place of an element fits, as the whole slice does
 pub place-fits : {i n : ℕ} → n * 32 < 2 ^ 63 → i < n → i * 32 < 2 ^ 64
