@@ -3,3 +3,4 @@ pub mod FirstLaws
 pub mod NumberLaws
 mod Rows
 mod Big
+mod Again
