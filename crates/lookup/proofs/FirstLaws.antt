@@ -13,6 +13,7 @@ use borrow.Author.Tests.{lt-ltb, le-ltb, ltb-true, ltb-false}
 use Rattle.lists.specs.Answer.{ok, refused}
 use Rattle.lists.specs.Choose.{choose}
 use Rattle.lists.specs.Run.{run}
+use Rattle.lists.proofs.AnswerLaws.{refused-ok}
 use Rattle.lists.proofs.RunLaws.{length-run, build-next}
 use Rattle.lists.proofs.Tests.{by-flag}
 use Rattle.model.specs.Geometry.{containsOf}
@@ -44,6 +45,17 @@ region-from f i (r ∷ rs) = go (containsOf r f) (region-from f (suc i) rs)
 
 pub region-first : (rs : List Rect) (f : Rect) → regionOf rs f ≡ choose (ltb (firstOf rs f) (length rs)) (ok (firstOf rs f)) (refused (RegionNotFound (f .left) (f .top)))
 region-first rs f = region-from f 0 rs ∙ rw (zero-add (firstOf rs f))
+
+-- the number of a region is below their count
+pub region-number : (rs : List Rect) (f : Rect) (i : ℕ) → regionOf rs f ≡ ok i → i < length rs
+region-number rs f i e =
+    let q : choose (ltb (firstOf rs f) (length rs)) (ok (firstOf rs f)) (refused (RegionNotFound (f .left) (f .top))) ≡ ok i = sym (region-first rs f) ∙ e in
+    by-flag (ltb (firstOf rs f) (length rs))
+    (λ y.
+    let k : _≡_ {A = Reading ℕ} (ok (firstOf rs f)) (ok i) = rw y at q in
+    let z : firstOf rs f ≡ i = cc in
+    omega (arith, ltb-true (firstOf rs f) (length rs) y))
+    (λ n. refused-ok (rw n at q))
 
 pub first-few : (rs : List Rect) (f : Rect) → firstOf rs f ≤ length rs
 unfolding firstOf
