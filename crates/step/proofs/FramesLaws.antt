@@ -13,7 +13,7 @@ use Rattle.cells.specs.Plane.{cellsIn, planeIn, KeptBefore}
 use Rattle.cells.proofs.PlaneLaws.{length-cells, length-plane, kept-plane}
 use Rattle.outline.specs.declared.Outline.{Outline}
 use Rattle.regions.specs.Regions.{Finder}
-use Rattle.step.specs.Made.{rowOf, rowMade, rowsOf, Fits}
+use Rattle.step.specs.Made.{rowMade, rowsOf, Fits}
 use Rattle.step.specs.PlaneStep.{Row, Rows, rowBy, addRow, addFrames}
 use Rattle.step.specs.declared.PlaneSofar.{PlaneSofar}
 use Rattle.step.specs.declared.RowMade.{RowMade}

@@ -1,6 +1,6 @@
 -- `lookup::seek` meets its contract.
 use mathlib.Core.Path.{_≡_, sym, ap, _∙_}
-use Prim.Native.Nat.{_*_, _/_, _%_, _<_}
+use Prim.Native.Nat.{_/_, _%_}
 use native.Mathlib.Omega.{arith}
 use lib.ListN.{length}
 use Rattle.lists.specs.Picture.{canvas}
@@ -16,7 +16,6 @@ use borrow.Author.Needs.{needs}
 
 abbrev start : tie.After-next-corner → tie.Start
 start c = c .before .before
-
 
 -- the answer of the walks
 answered : (c : tie.After-recognize-rectangle) {F : Framed} → c .recognize-rectangle .result ≡ F
