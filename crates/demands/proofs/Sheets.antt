@@ -38,7 +38,8 @@ use Rattle.layers.specs.Grid.{carriedCode}
 use Rattle.layers.specs.Passes.{lineCarried}
 use Rattle.layers.specs.Thin.{thinOf}
 use Rattle.regions.specs.Regions.{regionsBy}
-use Rattle.step.specs.PlaneStep.{regionFrom, planeBy}
+use Rattle.lookup.specs.Lookup.{regionFrom}
+use Rattle.step.specs.PlaneStep.{planeBy}
 use Rattle.texts.specs.RegionText.{behind, textOf, packed, textsOf}
 use Rattle.canvas.specs.DrawnPlane.{textPlaneBy}
 use Rattle.canvas.specs.Layers.{drawingBy, sheetBy}

@@ -3,6 +3,7 @@ use mathlib.Core.Path.{_≡_, refl, sym, ap, subst, _∙_}
 use mathlib.Core.Bool.{true}
 use mathlib.Core.List.{List, _++_}
 use Prim.Native.Nat.{ℕ, _+_, _*_, _≤_}
+use native.Mathlib.Nat.{mul-le-mul}
 use native.Mathlib.Omega.{arith}
 use lib.ListN.{length}
 use Rattle.lists.specs.Answer.{ok, refused}
@@ -90,7 +91,7 @@ module _ (o : Outline) (text thin grid : List ℕ) (w h : ℕ) (r : RegionsRead)
 -- the plane step's slices
 pub step-room : {w h n : ℕ} {grid rects : List ℕ} → Layer w h grid → n ≤ regionCount → regionCount * 4 ≤ length rects → StepRoom w h n grid rects
 step-room l k r =
-    record { layer = record { columns = omega (arith, l .columns); rows = omega (arith, l .rows); size = l .size }; few = k; rects = omega arith }
+    record { layer = record { columns = omega (arith, l .columns); rows = omega (arith, l .rows); size = l .size }; size = mul-le-mul (l .rows) (l .columns); few = k; rects = omega arith }
 
 -- what is printed of a plane that is made, or not
 module _ (m : PlaneMade) (d : List ℕ) (x : Reading Plane) (e : planeMade m d ≡ x) where

@@ -146,7 +146,7 @@ module _ (s : List ℕ) (o : Outline) (e : ok o ≡ sheetOf s) {h w : ℕ} {t m 
       → regionCount * 2 ≤ length spans → planeSize ≤ length d → PlaneRoom w h t m g rects bytes spans d
   plane-room a c f r x y z =
       let q = size-in in
-      record { regions = record { layer = layer-in m c; size = omega arith; fourEach = r; allTexts = x; twoEach = y }; grid = layer-in g f; plane = z }
+      record { regions = record { layer = layer-in m c; size = omega arith; fourEach = r; allTexts = x; twoEach = y }; grid = layer-in g f; size = q .2; plane = z }
 
   -- its plane
   as-drawn : textPlaneOf o (canvas w h t) (canvas w h m) (canvas w h g) w h ≡ drawnPlaneBy frameOf (rowsAt s 0) o

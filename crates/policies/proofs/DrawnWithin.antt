@@ -25,8 +25,9 @@ use Rattle.cells.specs.Plane.{Plane, TextPlane}
 use Rattle.record.specs.Policy.{Text}
 use Rattle.outline.specs.declared.Outline.{Outline}
 use Rattle.regions.specs.Regions.{Finder, regionsOf}
+use Rattle.lookup.specs.Lookup.{regionOf}
 use Rattle.scan.specs.Rows.{widest}
-use Rattle.step.specs.PlaneStep.{Row, Rows, isAt, regionOf, outputLine, annotationLine, addLine, cornersIn, fitting, withCell, addCell, rowBy, addRow, addFrames, addGridRow, noRows, rowsBy, planeBy, planeOf}
+use Rattle.step.specs.PlaneStep.{Row, Rows, isAt, outputLine, annotationLine, addLine, cornersIn, fitting, withCell, addCell, rowBy, addRow, addFrames, addGridRow, noRows, rowsBy, planeBy, planeOf}
 use Rattle.texts.specs.RegionText.{textOf, packed, textsOf}
 use Rattle.texts.proofs.TextsLaws.{texts-are, texts-fit}
 use Rattle.walks.specs.Frame.{frameOf}

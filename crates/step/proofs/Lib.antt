@@ -1,5 +1,4 @@
 -- Laws of the plane step.
-pub mod RegionLaws
 pub mod RegionsAmong
 pub mod CellLaws
 pub mod RowLaws

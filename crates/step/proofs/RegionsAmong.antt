@@ -23,8 +23,9 @@ use Rattle.cells.proofs.AmongLaws.{Numbered, Among}
 use Rattle.outline.specs.declared.Crossing.{Crossing}
 use Rattle.outline.specs.declared.Outline.{Outline}
 use Rattle.regions.specs.Regions.{Finder}
-use Rattle.step.specs.PlaneStep.{Row, Rows, isAt, regionOf, outputLine, annotationLine, addLine, cornersIn, fitting, outputBefore, annotationBefore, withCell, addCell, rowBy, addRow, addFrames, addGridRow, noRows, rowsBy, planeBy}
-use Rattle.step.proofs.RegionLaws.{number-in}
+use Rattle.lookup.specs.Lookup.{regionOf}
+use Rattle.lookup.proofs.FirstLaws.{region-number}
+use Rattle.step.specs.PlaneStep.{Row, Rows, isAt, outputLine, annotationLine, addLine, cornersIn, fitting, outputBefore, annotationBefore, withCell, addCell, rowBy, addRow, addFrames, addGridRow, noRows, rowsBy, planeBy}
 
 no-region : {A : Type 0} → _≡_ {A = ℕ} 0 1 → A
 no-region e = absurd (omega arith)
@@ -80,7 +81,7 @@ module _ (o : Outline) (find : Finder) (regions : List Rect) where
   cell-among n y x s t e q =
       let a = then-ok (find x y) (λ f. _>>=_ (regionOf regions f) (λ i. fitting n (withCell o x i s))) t e in
       let b = then-ok (regionOf regions (a .0)) (λ i. fitting n (withCell o x i s)) t (a .2) in
-      let h : b .0 < count = omega (arith, number-in (a .0) 0 (b .0) regions (b .1)) in
+      let h : b .0 < count = region-number regions (a .0) (b .0) (b .1) in
       subst (λ (r : Row). All (Numbered count) (r .cells)) (fitted n (withCell o x (b .0) s) t (b .2)) (with-cell x (b .0) s h q)
 
   row-added : (s t : Rows) (r : Row) → addRow s r ≡ ok t → All (Numbered count) (r .cells) → Among count (s .plane) → Among count (t .plane)

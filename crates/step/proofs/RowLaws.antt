@@ -1,16 +1,18 @@
--- A row of frames that is being made.
+-- The cells of a frame whose number is known, and a row of frames that is being made.
 use mathlib.Core.Path.{_≡_, refl, sym, ap, _∙_, subst}
+use mathlib.Core.Bool.{Bool, true}
 use mathlib.Core.List.{List, []}
-use Prim.Native.Nat.{ℕ, _+_, _-_, _≤_, _<_}
-use native.Mathlib.Nat.{sub-zero}
+use Prim.Native.Nat.{ℕ, _+_, _-_, _*_, _/_, _%_, _≤_, _<_}
+use native.Mathlib.Nat.{sub-zero, add-zero, mod-eq-of-lt, div-eq-of-lt, mul-add-div-right, mul-add-mod-self-right}
 use native.Mathlib.Omega.{arith}
-use lib.ListN.{length}
-use Rattle.lists.specs.Answer.{ok, refused, each, those}
+use lib.ListN.{length, getD}
+use borrow.Author.Tests.{lt-ltb, le-ltb}
+use Rattle.lists.specs.Answer.{ok, refused, _>>=_, each, those}
 use Rattle.lists.specs.Choose.{choose}
-use Rattle.lists.specs.Picture.{Picture}
+use Rattle.lists.specs.Picture.{Picture, canvas}
 use Rattle.lists.specs.Run.{run}
 use Rattle.lists.proofs.AnswerLaws.{turn-on, turn-out, turn-end}
-use Rattle.model.specs.Limits.{planeCells}
+use Rattle.lists.proofs.PictureLaws.{place-fits}
 use Rattle.model.specs.Refusals.{Reading}
 use Rattle.model.specs.declared.Rect.{Rect}
 use Rattle.model.specs.declared.Refusal.{Refusal}
@@ -19,63 +21,93 @@ use Rattle.cells.proofs.PlaneLaws.{kept-refl, kept-then}
 use Rattle.outline.specs.declared.Crossing.{Crossing}
 use Rattle.outline.specs.declared.Outline.{Outline}
 use Rattle.regions.specs.Regions.{Finder, isCorner}
-use Rattle.step.specs.Made.{rowOf, rowMade, RowFits}
-use Rattle.step.specs.PlaneStep.{Row, regionOf, fitting, withCell, addCell, rowBy}
+use Rattle.lookup.specs.Lookup.{regionOf, firstIn, numberOf, Numbered}
+use Rattle.lookup.proofs.FirstLaws.{region-first}
+use Rattle.walks.specs.Frame.{frameOf}
+use Rattle.walks.specs.Kinds.{grid}
+use Rattle.step.specs.Made.{noRegion, rowOf, rowMade, RowFit, RowFits, Over}
+use Rattle.step.specs.PlaneStep.{Row, fitting, withCell, addCell, rowBy}
 use Rattle.step.specs.declared.RowMade.{RowMade}
 use Rattle.step.specs.declared.RowMade.the-variants.{Cells, NoCells}
 use Rattle.step.specs.declared.RowSofar.{RowSofar}
 
--- a frame's cells are added where the frame is found, and its region
-module _ (o : Outline) (find : Finder) (regions : List Rect) (row y x : ℕ) (s : Row) where
-  pub no-frame : (r : Refusal) → find x y ≡ refused r → refused r ≡ addCell o find regions row y x s
-  no-frame r e = rw e
+-- place y * w + x of a picture of w columns is column x of row y
+pub place-mod : (w x y : ℕ) → x < w → (y * w + x) % w ≡ x
+place-mod w x y l = mul-add-mod-self-right y w x ∙ mod-eq-of-lt l
 
-  module _ (f : Rect) (e : find x y ≡ ok f) where
-    pub no-region : (r : Refusal) → regionOf regions f ≡ refused r → refused r ≡ addCell o find regions row y x s
-    no-region r g = rw (e, g)
+pub place-div : (w x y : ℕ) → x < w → (y * w + x) / w ≡ y
+place-div w x y l = mul-add-div-right (omega arith) y x ∙ rw (div-eq-of-lt l, add-zero y)
 
-    pub with-region : (i : ℕ) → regionOf regions f ≡ ok i → fitting row (withCell o x i s) ≡ addCell o find regions row y x s
-    with-region i g = rw (e, g)
+-- the number k of the frame in column x of row y tells whether a region contains it
+module _ (o : Outline) (find : Finder) (rs : List Rect) (row y x : ℕ) (s : Row) (k : ℕ) (e : k ≡ numberOf find rs x y) where
+  pub with-region : k < length rs → fitting row (withCell o x k s) ≡ addCell o find rs row y x s
+  with-region l = go (find x y) e
+    where
+      go : (m : Reading Rect) → k ≡ firstIn rs m → fitting row (withCell o x k s) ≡ _>>=_ m (λ f. _>>=_ (regionOf rs f) (λ i. fitting row (withCell o x i s)))
+      go (ok f) q = rw (region-first rs f, ← q, lt-ltb k (length rs) l)
+      go (refused r) q = absurd (omega (arith, q))
+
+  pub no-region : length rs ≤ k → refused (noRegion (find x y)) ≡ addCell o find rs row y x s
+  no-region l = go (find x y) e
+    where
+      go : (m : Reading Rect) → k ≡ firstIn rs m → refused (noRegion m) ≡ _>>=_ m (λ f. _>>=_ (regionOf rs f) (λ i. fitting row (withCell o x i s)))
+      go (ok f) q = rw (region-first rs f, ← q, le-ltb k (length rs) l)
+      go (refused r) q = refl
+
+-- the number that stands at a corner
+pub number-at : (find : Finder) (rs : List Rect) (w h : ℕ) (l found : List ℕ) (x y : ℕ) → x < w → y < h → isCorner (canvas w h l x y) ≡ true → Numbered find rs (canvas w h l) w (h * w) found
+    → getD found (y * w + x) 0 ≡ numberOf find rs x y
+number-at find rs w h l found x y a b c n =
+    let m = place-mod w x y a in
+    let d = place-div w x y a in
+    rw (m, d) at (n (y * w + x) (place-fits h w x y (h * w) a b (omega arith)) (rw (m, d) c))
 
 -- the frames before column x of row y are in the row s
-pub record Filling (o : Outline) (find : Finder) (regions : List Rect) (p : Picture) (w row y : ℕ) (d : List ℕ) (s₀ : RowSofar) (out : List ℕ) (x : ℕ) (s : RowSofar) : Type 0 where
+pub record Filling (o : Outline) (w h count : ℕ) (l found : List ℕ) (row y : ℕ) (d : List ℕ) (s₀ : RowSofar) (out : List ℕ) (x : ℕ) (s : RowSofar) : Type 0 where
   pub along : x ≤ w
   pub long : length out ≡ length d
   pub kept : KeptBefore d out row
-  pub few : s .cells ≤ planeCells
-  pub same : each (addCell o find regions row y) (those (λ i. isCorner (p i y)) x (w - x)) (rowOf s out row)
-      ≡ rowBy o find regions p w row y (record { cells = []; output = s₀ .output; annotation = s₀ .annotation })
+  pub fits : RowFit s row
+  pub same : Over w h count l found (λ rs.
+      each (addCell o (frameOf grid (canvas w h l) w h) rs row y) (those (λ i. isCorner (canvas w h l i y)) x (w - x)) (rowOf s out row)
+      ≡ rowBy o (frameOf grid (canvas w h l) w h) rs (canvas w h l) w row y (record { cells = []; output = s₀ .output; annotation = s₀ .annotation }))
 
-module _ (o : Outline) (find : Finder) (regions : List Rect) (p : Picture) (w row y : ℕ) (d : List ℕ) where
-  pub filling-start : (output annotation : Crossing)
-      → Filling o find regions p w row y d (record { cells = 0; output = output; annotation = annotation }) d 0 (record { cells = 0; output = output; annotation = annotation })
-  unfolding cellsIn run
-  filling-start output annotation = record { along = omega arith; long = refl; kept = kept-refl d row; few = omega arith; same = rw (sub-zero w) }
+pub filling-start : (o : Outline) (w h count : ℕ) (l found : List ℕ) (row y : ℕ) (d : List ℕ) (output annotation : Crossing)
+    → Filling o w h count l found row y d (record { cells = 0; output = output; annotation = annotation }) d 0 (record { cells = 0; output = output; annotation = annotation })
+unfolding cellsIn run
+filling-start o w h count l found row y d output annotation =
+    record { along = omega arith; long = refl; kept = kept-refl d row; fits = record { few = omega arith; low = λ z. absurd (omega arith) }; same = λ rs n m. rw (sub-zero w) }
 
-module _ {o : Outline} {find : Finder} {regions : List Rect} {p : Picture} {w row y : ℕ} {d : List ℕ} {s₀ : RowSofar} {out : List ℕ} {x : ℕ} {s : RowSofar}
-    (q : Filling o find regions p w row y d s₀ out x s) where
-  abbrev whole : Reading Row
-  whole = rowBy o find regions p w row y (record { cells = []; output = s₀ .output; annotation = s₀ .annotation })
+module _ {o : Outline} {w h count : ℕ} {l found : List ℕ} {row y : ℕ} {d : List ℕ} {s₀ : RowSofar} {out : List ℕ} {x : ℕ} {s : RowSofar} (q : Filling o w h count l found row y d s₀ out x s) where
+  abbrev p : Picture
+  p = canvas w h l
 
-  module _ (l : x < w) (r : RowMade) (b : List ℕ)
-      (e : rowMade r b row ≡ choose (isCorner (p x y)) (addCell o find regions row y x (rowOf s out row)) (ok (rowOf s out row))) (k : KeptBefore out b row) where
-    pub filling-more : RowFits r → length b ≡ length out → (t : RowSofar) → r ≡ Cells t → Filling o find regions p w row y d s₀ b (x + 1) t
-    filling-more f g t z =
+  abbrev add : List Rect → ℕ → Row → Reading Row
+  add rs = addCell o (frameOf grid p w h) rs row y
+
+  abbrev corner : ℕ → Bool
+  corner i = isCorner (p i y)
+
+  abbrev whole : List Rect → Reading Row
+  whole rs = rowBy o (frameOf grid p w h) rs p w row y (record { cells = []; output = s₀ .output; annotation = s₀ .annotation })
+
+  module _ (g : x < w) (r : RowMade) (b : List ℕ) (e : Over w h count l found (λ rs. rowMade r b row ≡ choose (corner x) (add rs x (rowOf s out row)) (ok (rowOf s out row)))) (k : KeptBefore out b row) where
+    pub filling-more : RowFits r row → length b ≡ length out → (t : RowSofar) → r ≡ Cells t → Filling o w h count l found row y d s₀ b (x + 1) t
+    filling-more f len t z =
         record {
           along = omega arith;
-          long = g ∙ q .long;
+          long = len ∙ q .long;
           kept = kept-then d out b row (q .kept) k;
-          few = subst RowFits z f;
-          same =
-              sym (turn-on (addCell o find regions row y) (λ i. isCorner (p i y)) x w (rowOf s out row) (rowOf t b row) l (sym e ∙ ap (λ (m : RowMade). rowMade m b row) z))
-              ∙ q .same;
+          fits = subst (λ (m : RowMade). RowFits m row) z f;
+          same = λ rs n m.
+              sym (turn-on (add rs) corner x w (rowOf s out row) (rowOf t b row) g (sym (e rs n m) ∙ ap (λ (a : RowMade). rowMade a b row) z)) ∙ q .same rs n m;
         }
 
-    pub filling-out : (f : Refusal) → r ≡ NoCells f → (refused f ≡ whole) × KeptBefore d b row
+    pub filling-out : (f : Refusal) → r ≡ NoCells f → Over w h count l found (λ rs. refused f ≡ whole rs) × KeptBefore d b row
     filling-out f z = (
-      sym (turn-out (addCell o find regions row y) (λ i. isCorner (p i y)) x w (rowOf s out row) f l (sym e ∙ ap (λ (m : RowMade). rowMade m b row) z)) ∙ q .same,
+      λ rs n m. sym (turn-out (add rs) corner x w (rowOf s out row) f g (sym (e rs n m) ∙ ap (λ (a : RowMade). rowMade a b row) z)) ∙ q .same rs n m,
       kept-then d out b row (q .kept) k,
     )
 
-  pub filling-end : w ≤ x → ok (rowOf s out row) ≡ whole
-  filling-end l = sym (turn-end (addCell o find regions row y) (λ i. isCorner (p i y)) x w (rowOf s out row) l) ∙ q .same
+  pub filling-end : w ≤ x → Over w h count l found (λ rs. ok (rowOf s out row) ≡ whole rs)
+  filling-end g rs n m = sym (turn-end (add rs) corner x w (rowOf s out row) g) ∙ q .same rs n m

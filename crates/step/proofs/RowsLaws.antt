@@ -9,7 +9,7 @@ use lib.Dec.{eqb}
 use lib.ListN.{length}
 use Rattle.lists.specs.Answer.{ok, refused, _>>=_, each, those}
 use Rattle.lists.specs.Choose.{choose}
-use Rattle.lists.specs.Picture.{Picture}
+use Rattle.lists.specs.Picture.{Picture, canvas}
 use Rattle.lists.specs.Run.{run}
 use Rattle.lists.proofs.AnswerLaws.{turn-on, turn-out, turn-end}
 use Rattle.model.specs.Limits.{planeSize}
@@ -20,8 +20,10 @@ use Rattle.cells.specs.Plane.{planeIn}
 use Rattle.outline.specs.declared.Crossing.the-variants.{Nowhere}
 use Rattle.outline.specs.declared.Outline.{Outline}
 use Rattle.regions.specs.Regions.{Finder}
-use Rattle.step.specs.Made.{rowsOf, rowsMade, Fits, RowsFit, lineCell}
-use Rattle.step.specs.PlaneStep.{Rows, isAt, annotationLine, addLine, addFrames, addGridRow, rowsBy, planeBy}
+use Rattle.walks.specs.Frame.{frameOf}
+use Rattle.walks.specs.Kinds.{grid}
+use Rattle.step.specs.Made.{rowsOf, rowsMade, Fits, RowsFit, lineCell, Over}
+use Rattle.step.specs.PlaneStep.{Rows, isAt, annotationLine, addLine, addFrames, addGridRow, rowsBy, planeBy, planeOf}
 use Rattle.step.specs.declared.PlaneSofar.{PlaneSofar}
 use Rattle.step.specs.declared.RowsMade.{RowsMade}
 use Rattle.step.specs.declared.RowsMade.the-variants.{Sofar, NoRows}
@@ -56,45 +58,48 @@ module _ (o : Outline) (find : Finder) (regions : List Rect) (p : Picture) (w y 
       lines-added b z = sym (second z)
 
 -- the rows of GRID above row y are added, and the plane is s
-pub record Growing (o : Outline) (find : Finder) (regions : List Rect) (p : Picture) (w h : ℕ) (d out : List ℕ) (y : ℕ) (s : PlaneSofar) : Type 0 where
+pub record Growing (o : Outline) (w h count : ℕ) (l found : List ℕ) (d out : List ℕ) (y : ℕ) (s : PlaneSofar) : Type 0 where
   pub along : y ≤ h
   pub long : length out ≡ length d
   pub fits : Fits s out
-  pub same : each (addGridRow o find regions p w) (those (λ _. true) y (h - y)) (rowsOf s out) ≡ rowsBy find o regions p w h
+  pub same : Over w h count l found (λ rs.
+      each (addGridRow o (frameOf grid (canvas w h l) w h) rs (canvas w h l) w) (those (λ _. true) y (h - y)) (rowsOf s out) ≡ rowsBy (frameOf grid (canvas w h l) w h) o rs (canvas w h l) w h)
 
-pub growing-start : (o : Outline) (find : Finder) (regions : List Rect) (p : Picture) (w h : ℕ) (d : List ℕ) → planeSize ≤ length d
-    → Growing o find regions p w h d d 0 (record { rows = 0; width = 0; output = Nowhere; annotation = Nowhere })
+pub growing-start : (o : Outline) (w h count : ℕ) (l found d : List ℕ) → planeSize ≤ length d
+    → Growing o w h count l found d d 0 (record { rows = 0; width = 0; output = Nowhere; annotation = Nowhere })
 unfolding planeIn run
-growing-start o find regions p w h d l =
+growing-start o w h count l found d g =
     record {
       along = omega arith;
       long = refl;
-      fits = record { plane = record { room = l; rows = omega arith; cells = λ j k. absurd (omega arith) }; width = omega arith };
-      same = rw (sub-zero h);
+      fits = record { plane = record { room = g; rows = omega arith; cells = λ j k. absurd (omega arith) }; width = omega arith };
+      same = λ rs n m. rw (sub-zero h);
     }
 
-module _ {o : Outline} {find : Finder} {regions : List Rect} {p : Picture} {w h : ℕ} {d out : List ℕ} {y : ℕ} {s : PlaneSofar} (q : Growing o find regions p w h d out y s) where
-  module _ (l : y < h) (r : RowsMade) (b : List ℕ) (e : rowsMade r b ≡ addGridRow o find regions p w y (rowsOf s out)) where
-    pub growing-more : RowsFit r b → length b ≡ length out → (t : PlaneSofar) → r ≡ Sofar t → Growing o find regions p w h d b (y + 1) t
-    growing-more f g t z =
+module _ {o : Outline} {w h count : ℕ} {l found d out : List ℕ} {y : ℕ} {s : PlaneSofar} (q : Growing o w h count l found d out y s) where
+  abbrev add : List Rect → ℕ → Rows → Reading Rows
+  add rs = addGridRow o (frameOf grid (canvas w h l) w h) rs (canvas w h l) w
+
+  module _ (g : y < h) (r : RowsMade) (b : List ℕ) (e : Over w h count l found (λ rs. rowsMade r b ≡ add rs y (rowsOf s out))) where
+    pub growing-more : RowsFit r b → length b ≡ length out → (t : PlaneSofar) → r ≡ Sofar t → Growing o w h count l found d b (y + 1) t
+    growing-more f len t z =
         record {
           along = omega arith;
-          long = g ∙ q .long;
+          long = len ∙ q .long;
           fits = rows-fit z f;
-          same =
-              sym (turn-on (addGridRow o find regions p w) (λ _. true) y h (rowsOf s out) (rowsOf t b) l (sym e ∙ ap (λ (m : RowsMade). rowsMade m b) z))
-              ∙ q .same;
+          same = λ rs n m.
+              sym (turn-on (add rs) (λ _. true) y h (rowsOf s out) (rowsOf t b) g (sym (e rs n m) ∙ ap (λ (a : RowsMade). rowsMade a b) z)) ∙ q .same rs n m;
         }
 
-    pub growing-out : (f : Refusal) → r ≡ NoRows f → refused f ≡ planeBy find o regions p w h
+    pub growing-out : (f : Refusal) → r ≡ NoRows f → Over w h count l found (λ rs. refused f ≡ planeOf o rs (canvas w h l) w h)
     unfolding planeBy
-    growing-out f z =
-        let v : rowsBy find o regions p w h ≡ refused f =
-        sym (q .same) ∙ turn-out (addGridRow o find regions p w) (λ _. true) y h (rowsOf s out) f l (sym e ∙ ap (λ (m : RowsMade). rowsMade m b) z) in
+    growing-out f z rs n m =
+        let v : rowsBy (frameOf grid (canvas w h l) w h) o rs (canvas w h l) w h ≡ refused f =
+        sym (q .same rs n m) ∙ turn-out (add rs) (λ _. true) y h (rowsOf s out) f g (sym (e rs n m) ∙ ap (λ (a : RowsMade). rowsMade a b) z) in
         rw v
 
-  pub growing-end : h ≤ y → ok (planeIn out (s .rows)) ≡ planeBy find o regions p w h
+  pub growing-end : h ≤ y → Over w h count l found (λ rs. ok (planeIn out (s .rows)) ≡ planeOf o rs (canvas w h l) w h)
   unfolding planeBy
-  growing-end l =
-      let v : rowsBy find o regions p w h ≡ ok (rowsOf s out) = sym (q .same) ∙ turn-end (addGridRow o find regions p w) (λ _. true) y h (rowsOf s out) l in
+  growing-end g rs n m =
+      let v : rowsBy (frameOf grid (canvas w h l) w h) o rs (canvas w h l) w h ≡ ok (rowsOf s out) = sym (q .same rs n m) ∙ turn-end (add rs) (λ _. true) y h (rowsOf s out) g in
       rw v

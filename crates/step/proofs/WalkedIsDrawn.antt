@@ -15,12 +15,13 @@ use Rattle.model.specs.declared.Rect.{Rect}
 use Rattle.cells.specs.Plane.{Plane}
 use Rattle.outline.specs.declared.Outline.{Outline}
 use Rattle.regions.specs.Regions.{Finder}
+use Rattle.lookup.specs.Lookup.{regionOf}
 use Rattle.walks.specs.Frame.{frameOf}
 use Rattle.walks.specs.Kinds.{grid}
 use Rattle.walks.specs.Sides.{bySides}
 use Rattle.walks.proofs.FrameLaws.{grid-sound}
 use Rattle.walks.proofs.SidesLaws.{walks-sides, sides-walks}
-use Rattle.step.specs.PlaneStep.{Row, Rows, isAt, outputLine, annotationLine, addLine, cornersIn, regionOf, fitting, withCell, addCell, rowBy, addRow, addFrames, addGridRow, noRows, rowsBy, planeBy}
+use Rattle.step.specs.PlaneStep.{Row, Rows, isAt, outputLine, annotationLine, addLine, cornersIn, fitting, withCell, addCell, rowBy, addRow, addFrames, addGridRow, noRows, rowsBy, planeBy}
 
 -- a finder that answers whatever another answers makes its plane
 module _ (f f' : Finder) (b : (x y : ℕ) → Below (f x y) (f' x y)) (o : Outline) (regions : List Rect) (p : Picture) (w : ℕ) where

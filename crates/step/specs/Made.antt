@@ -1,19 +1,25 @@
 -- What the functions of the plane step answer, with the slice that holds the plane.
 use mathlib.Core.Bool.{Bool}
 use mathlib.Core.List.{List}
-use Prim.Native.Nat.{ℕ, _*_, _≤_}
+use mathlib.Core.Path.{_≡_}
+use Prim.Native.Nat.{ℕ, _*_, _≤_, _<_}
 use lib.ListN.{length}
 use Rattle.lists.specs.Answer.{ok, refused}
 use Rattle.lists.specs.Choose.{choose}
-use Rattle.model.specs.Limits.{planeCells, regionCount}
+use Rattle.lists.specs.Picture.{canvas}
+use Rattle.model.specs.Limits.{canvasSize, planeRows, planeCells, regionCount}
 use Rattle.model.specs.Refusals.{Reading}
 use Rattle.model.specs.declared.Cell.{Cell}
+use Rattle.model.specs.declared.Rect.{Rect}
+use Rattle.model.specs.declared.Refusal.{Refusal}
+use Rattle.model.specs.declared.Refusal.the-variants.{RegionNotFound}
 use Rattle.cells.specs.Plane.{Plane, cellsIn, planeIn, PlaneFits}
 use Rattle.outline.specs.declared.Crossing.{Crossing}
 use Rattle.regions.specs.Rects.{Layer}
+use Rattle.lookup.specs.Lookup.{Numbered}
+use Rattle.walks.specs.Frame.{frameOf}
+use Rattle.walks.specs.Kinds.{grid}
 use Rattle.step.specs.PlaneStep.{Row, Rows, outputLine, annotationLine}
-use Rattle.step.specs.declared.RegionFound.{RegionFound}
-use Rattle.step.specs.declared.RegionFound.the-variants.{Number, NoRegion}
 use Rattle.step.specs.declared.RowSofar.{RowSofar}
 use Rattle.step.specs.declared.RowMade.{RowMade}
 use Rattle.step.specs.declared.RowMade.the-variants.{Cells, NoCells}
@@ -23,9 +29,10 @@ use Rattle.step.specs.declared.RowsMade.the-variants.{Sofar, NoRows}
 use Rattle.step.specs.declared.PlaneMade.{PlaneMade}
 use Rattle.step.specs.declared.PlaneMade.the-variants.{Made, NotMade}
 
-abbrev pub regionIn : RegionFound → Reading ℕ
-regionIn (Number i) = ok i
-regionIn (NoRegion r) = refused r
+-- why a frame has no region: it is none, or no region contains it (6)
+abbrev pub noRegion : Reading Rect → Refusal
+noRegion (ok f) = RegionNotFound (f .left) (f .top)
+noRegion (refused r) = r
 
 abbrev pub rowOf : RowSofar → List ℕ → ℕ → Row
 rowOf s d n = record { cells = cellsIn d n (s .cells); output = s .output; annotation = s .annotation }
@@ -35,10 +42,15 @@ abbrev pub rowMade : RowMade → List ℕ → ℕ → Reading Row
 rowMade (Cells s) d n = ok (rowOf s d n)
 rowMade (NoCells r) d n = refused r
 
--- the cells of an answer's row fit
-abbrev pub RowFits : RowMade → Type 0
-RowFits (Cells s) = s .cells ≤ planeCells
-RowFits (NoCells r) = Unit {0}
+-- the cells so far fit row n of the plane
+pub record RowFit (s : RowSofar) (n : ℕ) : Type 0 where
+  pub few : s .cells ≤ planeCells
+  pub low : 0 < s .cells → n < planeRows
+
+-- the same of an answer's row
+abbrev pub RowFits : RowMade → ℕ → Type 0
+RowFits (Cells s) n = RowFit s n
+RowFits (NoCells r) n = Unit {0}
 
 abbrev pub rowsOf : PlaneSofar → List ℕ → Rows
 rowsOf s d = record { plane = planeIn d (s .rows); width = s .width; output = s .output; annotation = s .annotation }
@@ -70,8 +82,19 @@ abbrev pub MadeFits : PlaneMade → List ℕ → Type 0
 MadeFits (Made n) d = PlaneFits d n
 MadeFits (NotMade r) d = Unit {0}
 
--- the layer GRID of w columns and h rows, and the rects of the regions, four numbers each
+-- the layer GRID of w columns and h rows, of at most 15,360 characters, and the rects of the regions, four numbers each
 pub record StepRoom (w h count : ℕ) (l r : List ℕ) : Type 0 where
   pub layer : Layer w h (length l)
+  pub size : h * w ≤ canvasSize
   pub few : count ≤ regionCount
   pub rects : count * 4 ≤ length r
+
+-- the same, with the numbers of its frames
+pub record NumberRoom (w h count : ℕ) (l found : List ℕ) : Type 0 where
+  pub layer : Layer w h (length l)
+  pub few : count ≤ regionCount
+  pub numbers : h * w ≤ length found
+
+-- a fact of every `count` regions whose numbers stand in `found`
+abbrev pub Over : ℕ → ℕ → ℕ → List ℕ → List ℕ → (List Rect → Type 0) → Type 0
+Over w h count l found Is = (rs : List Rect) → length rs ≡ count → Numbered (frameOf grid (canvas w h l) w h) rs (canvas w h l) w (h * w) found → Is rs

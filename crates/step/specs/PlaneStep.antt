@@ -1,21 +1,21 @@
 -- The plane of a drawing, over a finder of frames: document 01, "Regions and plane", and `plane` of the Rust's canvas.
 use mathlib.Core.Bool.{Bool, true, false}
 use mathlib.Core.List.{List, [], _∷_, _++_}
-use Prim.Native.Nat.{ℕ, suc}
+use Prim.Native.Nat.{ℕ}
 use lib.Dec.{eqb, leb, ltb}
 use lib.ListN.{length}
 use Rattle.lists.specs.Answer.{ok, refused, _>>=_, each, those}
 use Rattle.lists.specs.Choose.{choose}
 use Rattle.lists.specs.Picture.{Picture}
 use Rattle.lists.specs.Run.{build}
-use Rattle.model.specs.Geometry.{containsOf}
 use Rattle.model.specs.Limits.{planeRows, planeCells}
 use Rattle.model.specs.Refusals.{Reading}
 use Rattle.model.specs.declared.Cell.{Cell}
 use Rattle.model.specs.declared.Cell.the-variants.{Region, VerticalOutputDoubleLine, VerticalAnnotationDoubleLine, HorizontalOutputDoubleLine, HorizontalAnnotationsDoubleLine, MainDoubleCrossing, HorizontalDoubleCrossing, VerticalDoubleCrossing}
 use Rattle.model.specs.declared.Rect.{Rect}
-use Rattle.model.specs.declared.Refusal.the-variants.{RegionNotFound, OverLimit}
+use Rattle.model.specs.declared.Refusal.the-variants.{OverLimit}
 use Rattle.cells.specs.Plane.{Plane}
+use Rattle.lookup.specs.Lookup.{regionOf}
 use Rattle.outline.specs.declared.Crossing.{Crossing}
 use Rattle.outline.specs.declared.Crossing.the-variants.{At, Nowhere}
 use Rattle.outline.specs.declared.Outline.{Outline}
@@ -26,14 +26,6 @@ use Rattle.walks.specs.Kinds.{grid}
 abbrev pub isAt : Crossing → ℕ → Bool
 isAt (At i) x = eqb i x
 isAt Nowhere x = false
-
--- the first region in row order, from the i-th on, that contains a frame; where there is none, 6 with the frame's left and top
-unfoldable pub regionFrom : Rect → ℕ → List Rect → Reading ℕ
-regionFrom f i [] = refused (RegionNotFound (f .left) (f .top))
-regionFrom f i (r ∷ rs) = choose (containsOf r f) (ok i) (regionFrom f (suc i) rs)
-
-abbrev pub regionOf : List Rect → Rect → Reading ℕ
-regionOf rs f = regionFrom f 0 rs
 
 -- a row of the plane so far, and in which columns the last row that had them has the double lines before outputs and annotations
 pub record Row : Type 0 where

@@ -1,7 +1,7 @@
 // The plane step: from the frames of GRID, the regions and the crossings to the plane.
 use model::Cell;
-use model::Rect;
 use model::Refusal;
+use model::limits::CANVAS_SIZE;
 use model::limits::PLANE_CELLS;
 use model::limits::PLANE_ROWS;
 use outline::Crossing;
@@ -20,12 +20,12 @@ ghost use Rattle.outline.specs.declared.Crossing.the-variants.{At};
 ghost use Rattle.model.specs.Cells.{Small};
 ghost use Rattle.model.specs.Limits.{planeRows, planeCells, planeSize, regionCount};
 ghost use Rattle.cells.specs.Plane.{cellsIn, KeptBefore};
-ghost use Rattle.regions.specs.Rects.{rectAt, rectsOf};
+ghost use Rattle.regions.specs.Rects.{rectsOf};
 ghost use Rattle.regions.specs.Regions.{isCorner};
-ghost use Rattle.walks.specs.Frame.{frameOf};
+ghost use Rattle.walks.specs.Frame.{frameOf, Place};
 ghost use Rattle.walks.specs.Kinds.{grid};
-ghost use Rattle.step.specs.PlaneStep.{isAt, regionOf, addLine, withCell, fitting, addCell, rowBy, addFrames, addGridRow, planeOf};
-ghost use Rattle.step.specs.Made.{regionIn, rowOf, rowMade, RowFits, rowsOf, rowsMade, Fits, RowsFit, lineCell, planeMade, MadeFits, StepRoom};
+ghost use Rattle.step.specs.PlaneStep.{isAt, addLine, withCell, fitting, addCell, rowBy, addFrames, addGridRow, planeOf};
+ghost use Rattle.step.specs.Made.{noRegion, rowOf, rowMade, RowFit, RowFits, rowsOf, rowsMade, Fits, RowsFit, lineCell, planeMade, MadeFits, StepRoom, NumberRoom, Over};
 
 // Whether a crossing stands at a column or row.
 fn is_at(c: Crossing, x: usize) -> bool
@@ -35,41 +35,6 @@ fn is_at(c: Crossing, x: usize) -> bool
         Crossing::At(i) => i == x,
         Crossing::Nowhere => false,
     }
-}
-
-// Rect k of a slice.
-fn rect_at(rects: &[u32], k: usize) -> Rect
-    requires { ⌜ k * 4 + 4 ≤ length (now rects) ⌝ }
-    ensures { λ r. ⌜ r ≡ rectAt (now (rects .entry)) k ⌝ }
-{
-    let p = k * 4;
-    Rect {
-        left: rects[p] as usize,
-        top: rects[p + 1] as usize,
-        right: rects[p + 2] as usize,
-        bottom: rects[p + 3] as usize,
-    }
-}
-
-// The number of a frame's region, or why there is none.
-enum RegionFound {
-    Number(usize),
-    NoRegion(Refusal),
-}
-
-// The first of `count` regions that contains a frame.
-fn region_of(rects: &[u32], count: usize, f: Rect) -> RegionFound
-    requires { ⌜ count * 4 ≤ length (now rects) ⌝ }
-    ensures { λ r. ⌜ regionIn r ≡ regionOf (rectsOf (now (rects .entry)) count) f ⌝ }
-{
-    let mut i = 0;
-    while i < count {
-        if rect_at(rects, i).contains(f) {
-            return RegionFound::Number(i);
-        }
-        i += 1;
-    }
-    RegionFound::NoRegion(Refusal::RegionNotFound(f.left, f.top))
 }
 
 // A row so far: how many cells it has, and the columns of the two double lines.
@@ -120,9 +85,9 @@ fn add_cells(
     row: usize,
     s: RowSofar,
 ) -> RowMade
-    requires { ⌜ (region < regionCount) × (s .cells ≤ planeCells) × (planeSize ≤ length (now plane)) ⌝ }
+    requires { ⌜ (region < regionCount) × RowFit s row × (planeSize ≤ length (now plane)) ⌝ }
     ensures made { λ r. ⌜ rowMade r (now (plane .exit)) row ≡ fitting row (withCell o x region (rowOf s (now (plane .entry)) row)) ⌝ }
-    ensures fits { λ r. ⌜ RowFits r ⌝ }
+    ensures fits { λ r. ⌜ RowFits r row ⌝ }
     ensures before { λ _. ⌜ KeptBefore (now (plane .entry)) (now (plane .exit)) row ⌝ }
 {
     if PLANE_ROWS <= row {
@@ -155,7 +120,18 @@ fn add_cells(
     })
 }
 
-// The cells of the frame that starts in column x of row y, found among `count` regions.
+// Why the frame that starts in column x of row y has no region.
+fn why_none(layer: &[u32], w: usize, h: usize, x: usize, y: usize) -> Refusal
+    requires { ⌜ Place w h x y (length (now layer)) ⌝ }
+    ensures { λ r. ⌜ r ≡ noRegion (frameOf grid (canvas w h (now (layer .entry))) w h x y) ⌝ }
+{
+    match walks::recognize_rectangle(layer, w, h, x, y) {
+        Framed::Closed(f) => Refusal::RegionNotFound(f.left, f.top),
+        Framed::NotFramed(r) => r,
+    }
+}
+
+// The cells of the frame that starts in column x of row y, whose number is known.
 fn add_frame(
     o: Outline,
     layer: &[u32],
@@ -163,24 +139,22 @@ fn add_frame(
     h: usize,
     x: usize,
     y: usize,
-    rects: &[u32],
+    found: &[u32],
     count: usize,
     plane: &mut [u32],
     row: usize,
     s: RowSofar,
 ) -> RowMade
-    requires { ⌜ StepRoom w h count (now layer) (now rects) × (x < w) × (y < h) × (s .cells ≤ planeCells) × (planeSize ≤ length (now plane)) ⌝ }
-    ensures made { λ r. ⌜ rowMade r (now (plane .exit)) row ≡ addCell o (frameOf grid (canvas w h (now (layer .entry))) w h) (rectsOf (now (rects .entry)) count) row y x (rowOf s (now (plane .entry)) row) ⌝ }
-    ensures fits { λ r. ⌜ RowFits r ⌝ }
+    requires { ⌜ NumberRoom w h count (now layer) (now found) × (x < w) × (y < h) × RowFit s row × (planeSize ≤ length (now plane)) × (isCorner (canvas w h (now layer) x y) ≡ true) ⌝ }
+    ensures made { λ r. ⌜ Over w h count (now (layer .entry)) (now (found .entry)) (λ rs. rowMade r (now (plane .exit)) row ≡ addCell o (frameOf grid (canvas w h (now (layer .entry))) w h) rs row y x (rowOf s (now (plane .entry)) row)) ⌝ }
+    ensures fits { λ r. ⌜ RowFits r row ⌝ }
     ensures before { λ _. ⌜ KeptBefore (now (plane .entry)) (now (plane .exit)) row ⌝ }
 {
-    match walks::recognize_rectangle(layer, w, h, x, y) {
-        Framed::Closed(f) => match region_of(rects, count, f) {
-            RegionFound::Number(i) => add_cells(o, x, i, plane, row, s),
-            RegionFound::NoRegion(r) => RowMade::NoCells(r),
-        },
-        Framed::NotFramed(r) => RowMade::NoCells(r),
+    let k = found[y * w + x] as usize;
+    if k < count {
+        return add_cells(o, x, k, plane, row, s);
     }
+    RowMade::NoCells(why_none(layer, w, h, x, y))
 }
 
 // The same where a corner stands there; else the row is as it was.
@@ -191,19 +165,19 @@ fn add_if_corner(
     h: usize,
     x: usize,
     y: usize,
-    rects: &[u32],
+    found: &[u32],
     count: usize,
     plane: &mut [u32],
     row: usize,
     s: RowSofar,
 ) -> RowMade
-    requires { ⌜ StepRoom w h count (now layer) (now rects) × (x < w) × (y < h) × (s .cells ≤ planeCells) × (planeSize ≤ length (now plane)) ⌝ }
-    ensures made { λ r. ⌜ rowMade r (now (plane .exit)) row ≡ choose (isCorner (canvas w h (now (layer .entry)) x y)) (addCell o (frameOf grid (canvas w h (now (layer .entry))) w h) (rectsOf (now (rects .entry)) count) row y x (rowOf s (now (plane .entry)) row)) (ok (rowOf s (now (plane .entry)) row)) ⌝ }
-    ensures fits { λ r. ⌜ RowFits r ⌝ }
+    requires { ⌜ NumberRoom w h count (now layer) (now found) × (x < w) × (y < h) × RowFit s row × (planeSize ≤ length (now plane)) ⌝ }
+    ensures made { λ r. ⌜ Over w h count (now (layer .entry)) (now (found .entry)) (λ rs. rowMade r (now (plane .exit)) row ≡ choose (isCorner (canvas w h (now (layer .entry)) x y)) (addCell o (frameOf grid (canvas w h (now (layer .entry))) w h) rs row y x (rowOf s (now (plane .entry)) row)) (ok (rowOf s (now (plane .entry)) row))) ⌝ }
+    ensures fits { λ r. ⌜ RowFits r row ⌝ }
     ensures before { λ _. ⌜ KeptBefore (now (plane .entry)) (now (plane .exit)) row ⌝ }
 {
     if regions::is_corner(layer[y * w + x]) {
-        return add_frame(o, layer, w, h, x, y, rects, count, plane, row, s);
+        return add_frame(o, layer, w, h, x, y, found, count, plane, row, s);
     }
     RowMade::Cells(s)
 }
@@ -215,16 +189,16 @@ fn make_row(
     w: usize,
     h: usize,
     y: usize,
-    rects: &[u32],
+    found: &[u32],
     count: usize,
     plane: &mut [u32],
     row: usize,
     output: Crossing,
     annotation: Crossing,
 ) -> RowMade
-    requires { ⌜ StepRoom w h count (now layer) (now rects) × (y < h) × (planeSize ≤ length (now plane)) ⌝ }
-    ensures made { λ r. ⌜ rowMade r (now (plane .exit)) row ≡ rowBy o (frameOf grid (canvas w h (now (layer .entry))) w h) (rectsOf (now (rects .entry)) count) (canvas w h (now (layer .entry))) w row y (record { cells = []; output = output; annotation = annotation }) ⌝ }
-    ensures fits { λ r. ⌜ RowFits r ⌝ }
+    requires { ⌜ NumberRoom w h count (now layer) (now found) × (y < h) × (planeSize ≤ length (now plane)) ⌝ }
+    ensures made { λ r. ⌜ Over w h count (now (layer .entry)) (now (found .entry)) (λ rs. rowMade r (now (plane .exit)) row ≡ rowBy o (frameOf grid (canvas w h (now (layer .entry))) w h) rs (canvas w h (now (layer .entry))) w row y (record { cells = []; output = output; annotation = annotation })) ⌝ }
+    ensures fits { λ r. ⌜ RowFits r row ⌝ }
     ensures before { λ _. ⌜ KeptBefore (now (plane .entry)) (now (plane .exit)) row ⌝ }
 {
     let mut x = 0;
@@ -234,7 +208,7 @@ fn make_row(
         annotation,
     };
     while x < w {
-        s = match add_if_corner(o, layer, w, h, x, y, rects, count, plane, row, s) {
+        s = match add_if_corner(o, layer, w, h, x, y, found, count, plane, row, s) {
             RowMade::Cells(t) => t,
             RowMade::NoCells(r) => return RowMade::NoCells(r),
         };
@@ -339,13 +313,13 @@ fn add_frames(
     w: usize,
     h: usize,
     y: usize,
-    rects: &[u32],
+    found: &[u32],
     count: usize,
     plane: &mut [u32],
     s: PlaneSofar,
 ) -> RowsMade
-    requires { ⌜ StepRoom w h count (now layer) (now rects) × (y < h) × Fits s (now plane) ⌝ }
-    ensures made { λ r. ⌜ rowsMade r (now (plane .exit)) ≡ addFrames o (frameOf grid (canvas w h (now (layer .entry))) w h) (rectsOf (now (rects .entry)) count) (canvas w h (now (layer .entry))) w y (rowsOf s (now (plane .entry))) ⌝ }
+    requires { ⌜ NumberRoom w h count (now layer) (now found) × (y < h) × Fits s (now plane) ⌝ }
+    ensures made { λ r. ⌜ Over w h count (now (layer .entry)) (now (found .entry)) (λ rs. rowsMade r (now (plane .exit)) ≡ addFrames o (frameOf grid (canvas w h (now (layer .entry))) w h) rs (canvas w h (now (layer .entry))) w y (rowsOf s (now (plane .entry)))) ⌝ }
     ensures fits { λ r. ⌜ RowsFit r (now (plane .exit)) ⌝ }
 {
     let row = s.rows;
@@ -357,7 +331,7 @@ fn add_frames(
         w,
         h,
         y,
-        rects,
+        found,
         count,
         plane,
         row,
@@ -390,13 +364,13 @@ fn add_grid_row(
     w: usize,
     h: usize,
     y: usize,
-    rects: &[u32],
+    found: &[u32],
     count: usize,
     plane: &mut [u32],
     s: PlaneSofar,
 ) -> RowsMade
-    requires { ⌜ StepRoom w h count (now layer) (now rects) × (y < h) × Fits s (now plane) ⌝ }
-    ensures made { λ r. ⌜ rowsMade r (now (plane .exit)) ≡ addGridRow o (frameOf grid (canvas w h (now (layer .entry))) w h) (rectsOf (now (rects .entry)) count) (canvas w h (now (layer .entry))) w y (rowsOf s (now (plane .entry))) ⌝ }
+    requires { ⌜ NumberRoom w h count (now layer) (now found) × (y < h) × Fits s (now plane) ⌝ }
+    ensures made { λ r. ⌜ Over w h count (now (layer .entry)) (now (found .entry)) (λ rs. rowsMade r (now (plane .exit)) ≡ addGridRow o (frameOf grid (canvas w h (now (layer .entry))) w h) rs (canvas w h (now (layer .entry))) w y (rowsOf s (now (plane .entry)))) ⌝ }
     ensures fits { λ r. ⌜ RowsFit r (now (plane .exit)) ⌝ }
 {
     let a = match add_line_row(plane, s, y == o.y, true) {
@@ -408,13 +382,44 @@ fn add_grid_row(
         RowsMade::Sofar(t) => t,
         RowsMade::NoRows(r) => return RowsMade::NoRows(r),
     };
-    add_frames(o, layer, w, h, y, rects, count, plane, b)
+    add_frames(o, layer, w, h, y, found, count, plane, b)
 }
 
 // So many rows stand in the slice, or why they cannot.
 pub enum PlaneMade {
     Made(usize),
     NotMade(Refusal),
+}
+
+// The plane of a GRID layer of w columns and h rows, whose frames are numbered.
+fn add_grid_rows(
+    o: Outline,
+    layer: &[u32],
+    w: usize,
+    h: usize,
+    found: &[u32],
+    count: usize,
+    plane: &mut [u32],
+) -> PlaneMade
+    requires { ⌜ NumberRoom w h count (now layer) (now found) × (planeSize ≤ length (now plane)) ⌝ }
+    ensures made { λ r. ⌜ Over w h count (now (layer .entry)) (now (found .entry)) (λ rs. planeMade r (now (plane .exit)) ≡ planeOf o rs (canvas w h (now (layer .entry))) w h) ⌝ }
+    ensures fits { λ r. ⌜ MadeFits r (now (plane .exit)) ⌝ }
+{
+    let mut y = 0;
+    let mut s = PlaneSofar {
+        rows: 0,
+        width: 0,
+        output: Crossing::Nowhere,
+        annotation: Crossing::Nowhere,
+    };
+    while y < h {
+        s = match add_grid_row(o, layer, w, h, y, found, count, plane, s) {
+            RowsMade::Sofar(t) => t,
+            RowsMade::NoRows(r) => return PlaneMade::NotMade(r),
+        };
+        y += 1;
+    }
+    PlaneMade::Made(s.rows)
 }
 
 // The plane of a GRID layer of w columns and h rows, over `count` regions.
@@ -431,19 +436,7 @@ pub fn make_plane(
     ensures made { λ r. ⌜ planeMade r (now (plane .exit)) ≡ planeOf o (rectsOf (now (rects .entry)) count) (canvas w h (now (layer .entry))) w h ⌝ }
     ensures fits { λ r. ⌜ MadeFits r (now (plane .exit)) ⌝ }
 {
-    let mut y = 0;
-    let mut s = PlaneSofar {
-        rows: 0,
-        width: 0,
-        output: Crossing::Nowhere,
-        annotation: Crossing::Nowhere,
-    };
-    while y < h {
-        s = match add_grid_row(o, layer, w, h, y, rects, count, plane, s) {
-            RowsMade::Sofar(t) => t,
-            RowsMade::NoRows(r) => return PlaneMade::NotMade(r),
-        };
-        y += 1;
-    }
-    PlaneMade::Made(s.rows)
+    let mut found = [0u32; CANVAS_SIZE];
+    lookup::number_frames(layer, w, h, rects, count, &mut found);
+    add_grid_rows(o, layer, w, h, &found, count, plane)
 }

@@ -56,7 +56,7 @@ make-plane-requires c κs =
     let k = c .before .before in
     let p = start k .pre in
     let u = used k in
-    (record { layer = p .grid; few = u .0; rects = omega (arith, u .0, p .regions .fourEach, read k .read-regions .kept .1 .1 .1 .1 .0) }, p .plane)
+    (record { layer = p .grid; size = p .size; few = u .0; rects = omega (arith, u .0, p .regions .fourEach, read k .read-regions .kept .1 .1 .1 .1 .0) }, p .plane)
 
 enum-known-n : tie.Need-enum-known-n
 enum-known-n c = search needs

@@ -66,16 +66,16 @@ one-if-requires c κs = search needs
 add-if2 : tie.Need-add-if2
 add-if2 c =
     let t = c .before .before .before .before .before in
-    omega (arith, t .pre .1, c .one-if .ensures, one-few (isOutput t))
+    omega (arith, t .pre .1 .few, c .one-if .ensures, one-few (isOutput t))
 
 one-if-requires-2 : tie.Need-one-if-requires-2
 one-if-requires-2 c κs = search needs
 
 add-if2-2 : tie.Need-add-if2-2
-add-if2-2 c = omega (arith, output-one c, annotation-one c, start c .pre .1, one-few (isOutput (start c)), one-few (isAnnotation (start c)))
+add-if2-2 c = omega (arith, output-one c, annotation-one c, start c .pre .1 .few, one-few (isOutput (start c)), one-few (isAnnotation (start c)))
 
 add-if2-3 : tie.Need-add-if2-3
-add-if2-3 c = omega (arith, output-one c, annotation-one c, start c .pre .1, one-few (isOutput (start c)), one-few (isAnnotation (start c)))
+add-if2-3 c = omega (arith, output-one c, annotation-one c, start c .pre .1 .few, one-few (isOutput (start c)), one-few (isAnnotation (start c)))
 
 returns-2 : tie.Need-returns-2
 returns-2 c =
@@ -127,7 +127,7 @@ returns-3 c =
           (omega (arith, a .before .before .if2 .left, output-one o, annotation-one o)) (a .add-line-if .result) (b .add-line-if2 .result) _ _ _
           (a .add-line-if .ensures .1 .0) (b .add-line-if2 .ensures .1 .0) (p .put-cell .ensures .0) (c .before .column-if .ensures) (c .column-if2 .ensures),
       (
-        omega (arith, room b),
+        record { few = omega (arith, room b); low = λ z. low o },
         kept-then (t .args .plane .now) _ _ (t .args .row) (a .add-line-if .ensures .1 .1) (kept-then _ _ _ (t .args .row) (b .add-line-if2 .ensures .1 .1) (p .put-cell .ensures .1)),
       ),
     )

@@ -1,28 +1,24 @@
 -- `step::add_frame` meets its contract.
-use mathlib.Core.Path.{_≡_, sym, ap, _∙_}
+use mathlib.Core.Path.{ap, _∙_}
+use Prim.Native.Nat.{_+_, _*_, _<_}
 use native.Mathlib.Omega.{arith}
-use Rattle.lists.specs.Answer.{ok}
+use lib.ListN.{length}
+use Rattle.lists.specs.Answer.{refused}
 use Rattle.lists.specs.Picture.{canvas}
-use Rattle.model.specs.declared.Rect.{Rect}
+use Rattle.lists.proofs.PictureLaws.{place-fits}
 use Rattle.cells.proofs.PlaneLaws.{kept-refl}
-use Rattle.regions.specs.Rects.{rectsOf}
 use Rattle.regions.specs.Regions.{Finder}
-use Rattle.walks.specs.Frame.{frameOf, framedIn}
+use Rattle.walks.specs.Frame.{frameOf}
 use Rattle.walks.specs.Kinds.{grid}
-use Rattle.step.specs.Made.{regionIn, rowOf}
-use Rattle.step.specs.PlaneStep.{Row, regionOf}
-use Rattle.step.specs.declared.RegionFound.{RegionFound}
-use Rattle.step.proofs.RegionLaws.{region-number}
-use Rattle.step.proofs.RowLaws.{no-frame, no-region, with-region}
+use Rattle.step.specs.Made.{rowOf}
+use Rattle.step.specs.PlaneStep.{Row}
+use Rattle.step.proofs.RowLaws.{with-region, no-region, number-at}
 use borrow.Author.Needs.{needs}
 use Rattle.step.proofs.add_frame.Statement.{statement}
 use Rattle.step.proofs.add_frame.Tie as tie
 
-abbrev start : tie.After-recognize-rectangle → tie.Start
+abbrev start : tie.After-shared-slice-known3 → tie.Start
 start c = c .before .before .before .before
-
-abbrev framed : tie.After-region-of → tie.After-recognize-rectangle
-framed c = c .before .before .before .before
 
 abbrev find : tie.Start → Finder
 find t = frameOf grid (canvas (t .args .w) (t .args .h) (t .args .layer .now)) (t .args .w) (t .args .h)
@@ -30,75 +26,71 @@ find t = frameOf grid (canvas (t .args .w) (t .args .h) (t .args .layer .now)) (
 abbrev soFar : tie.Start → Row
 soFar t = rowOf (t .args .s) (t .args .plane .now) (t .args .row)
 
-abbrev frame : tie.After-region-of → Rect
-frame c = c .before .before .f .given .0 .0
+inside : (t : tie.Start) → t .args .y * t .args .w + t .args .x < length (t .args .found .now)
+inside t = place-fits (t .args .h) (t .args .w) (t .args .x) (t .args .y) (length (t .args .found .now)) (t .pre .1) (t .pre .2) (t .pre .0 .numbers)
 
-found : (c : tie.After-region-of) → find (start (framed c)) (start (framed c) .args .x) (start (framed c) .args .y) ≡ ok (frame c)
-found c = sym (framed c .recognize-rectangle .ensures) ∙ ap framedIn (c .before .before .f .given .1)
+mul-k : tie.Need-mul-k
+mul-k c = let t = c .before .before .before in omega (arith, inside t, t .good)
 
-region : (c : tie.After-region-of) {r : RegionFound} → c .region-of .result ≡ r → regionOf (rectsOf (start (framed c) .args .rects .now) (start (framed c) .args .count)) (frame c) ≡ regionIn r
-region c e = sym (c .region-of .ensures) ∙ ap regionIn e
+add-k : tie.Need-add-k
+add-k c = let t = c .before .before .before in omega (arith, inside t, t .good)
 
-recognize-rectangle-requires : tie.Need-recognize-rectangle-requires
-recognize-rectangle-requires c κs =
-    let t = c .before .before .before in
-    record { column = t .pre .1; row = t .pre .2; size = t .pre .0 .layer .size }
+mul-k-2 : tie.Need-mul-k-2
+mul-k-2 c = let t = c .before .before .before in omega (arith, inside t, t .good)
 
-enum-known-f : tie.Need-enum-known-f
-enum-known-f c = search needs
+shared-slice-read-k : tie.Need-shared-slice-read-k
+shared-slice-read-k c = inside (start c)
 
-region-of-requires : tie.Need-region-of-requires
-region-of-requires c κs = start (c .before .before .before) .pre .0 .rects
-
-enum-known-i : tie.Need-enum-known-i
-enum-known-i c = search needs
+cast-k : tie.Need-cast-k
+cast-k c = let a = start c .args in omega (arith, c .shared-slice-known3 .given (a .y * a .w + a .x))
 
 add-cells-requires : tie.Need-add-cells-requires
 add-cells-requires c κs =
-    let g = c .before .before .before .before in
-    let t = start (framed g) in
-    (omega (arith, t .pre .0 .few, region-number (frame g) (t .args .rects .now) (t .args .count) _ (region g (c .before .before .i .given .1))), t .pre .3, t .pre .4)
-
-enum-known-r : tie.Need-enum-known-r
-enum-known-r c = search needs
-
-enum-known-r-2 : tie.Need-enum-known-r-2
-enum-known-r-2 c = search needs
+    let t = start (c .before .before) in
+    (omega (arith, c .before .if1 .taken, t .pre .0 .few), t .pre .3, t .pre .4)
 
 same-length : tie.Need-same-length
 same-length c = search needs
 
 returns : tie.Need-returns
 returns c =
-    let a = c .before .before in
-    let g = a .before .before .before .before .before in
-    let t = start (framed g) in
-    (a .add-cells .ensures .0 ∙ with-region (t .args .o) (find t) (rectsOf (t .args .rects .now) (t .args .count)) (t .args .row) (t .args .y) (t .args .x) (soFar t) (frame g) (found g) _ (region g (a .before .before .before .i .given .1)), a .add-cells .ensures .1)
+    let g = c .before .before in
+    let i = g .before .before in
+    let t = start (i .before) in
+    let a = t .args in (
+      λ rs n m.
+          g .add-cells .ensures .0
+          ∙ with-region (a .o) (find t) rs (a .row) (a .y) (a .x) (soFar t) _ (number-at (find t) rs (a .w) (a .h) (a .layer .now) (a .found .now) (a .x) (a .y) (t .pre .1) (t .pre .2) (t .pre .5) m) (omega (arith, n, i .if1 .taken)),
+      g .add-cells .ensures .1,
+    )
+
+why-none-requires : tie.Need-why-none-requires
+why-none-requires c κs =
+    let t = start (c .before) in
+    record { column = t .pre .1; row = t .pre .2; size = t .pre .0 .layer .size }
 
 returns-2 : tie.Need-returns-2
 returns-2 c =
-    let g = c .before .before .before in
-    let t = start (framed g) in
-    (no-region (t .args .o) (find t) (rectsOf (t .args .rects .now) (t .args .count)) (t .args .row) (t .args .y) (t .args .x) (soFar t) (frame g) (found g) _ (region g (c .before .r .given .1)), (tt, kept-refl (t .args .plane .now) (t .args .row)))
-
-returns-3 : tie.Need-returns-3
-returns-3 c =
-    let f = c .before .before .before in
-    let t = start f in
-    (no-frame (t .args .o) (find t) (rectsOf (t .args .rects .now) (t .args .count)) (t .args .row) (t .args .y) (t .args .x) (soFar t) _ (sym (f .recognize-rectangle .ensures) ∙ ap framedIn (c .before .r2 .given .1)), (tt, kept-refl (t .args .plane .now) (t .args .row)))
+    let i = c .before in
+    let t = start (i .before) in
+    let a = t .args in (
+      λ rs n m.
+          ap refused (c .why-none .ensures)
+          ∙ no-region (a .o) (find t) rs (a .row) (a .y) (a .x) (soFar t) _ (number-at (find t) rs (a .w) (a .h) (a .layer .now) (a .found .now) (a .x) (a .y) (t .pre .1) (t .pre .2) (t .pre .5) m) (omega (arith, n, i .if1 .left)),
+      (tt, kept-refl (a .plane .now) (a .row)),
+    )
 
 pub add-frame-spec : {M : Type 1} → statement M
 add-frame-spec =
     tie.close
     (tie.spec
-    recognize-rectangle-requires
-    enum-known-f
-    region-of-requires
-    enum-known-i
+    mul-k
+    add-k
+    mul-k-2
+    shared-slice-read-k
+    cast-k
     add-cells-requires
-    enum-known-r
-    enum-known-r-2
     same-length
     returns
-    returns-2
-    returns-3)
+    why-none-requires
+    returns-2)

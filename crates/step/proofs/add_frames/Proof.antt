@@ -1,15 +1,16 @@
 -- `step::add_frames` meets its contract.
-use mathlib.Core.Path.{subst}
-use mathlib.Core.List.{List}
+use mathlib.Core.Path.{_≡_, subst}
+use native.Mathlib.Omega.{arith}
 use Rattle.lists.specs.Picture.{Picture, canvas}
-use Rattle.model.specs.declared.Rect.{Rect}
 use Rattle.cells.proofs.PlaneLaws.{kept-fits}
-use Rattle.regions.specs.Rects.{rectsOf}
 use Rattle.regions.specs.Regions.{Finder}
 use Rattle.walks.specs.Frame.{frameOf}
 use Rattle.walks.specs.Kinds.{grid}
-use Rattle.step.specs.Made.{RowFits}
-use Rattle.step.proofs.FramesLaws.{frames-out, frames-low, no-frames, frames-added}
+use Rattle.step.specs.Made.{RowFit, RowFits}
+use Rattle.step.specs.declared.RowMade.{RowMade}
+use Rattle.step.specs.declared.RowMade.the-variants.{Cells}
+use Rattle.step.specs.declared.RowSofar.{RowSofar}
+use Rattle.step.proofs.FramesLaws.{frames-out, no-frames, frames-added}
 use borrow.Author.Needs.{needs}
 use Rattle.step.proofs.add_frames.Statement.{statement}
 use Rattle.step.proofs.add_frames.Tie as tie
@@ -23,8 +24,9 @@ picture t = canvas (t .args .w) (t .args .h) (t .args .layer .now)
 abbrev find : tie.Start → Finder
 find t = frameOf grid (picture t) (t .args .w) (t .args .h)
 
-abbrev regions : tie.Start → List Rect
-regions t = rectsOf (t .args .rects .now) (t .args .count)
+-- the row's cells fit
+fits : (m : tie.After-make-row) {t : RowSofar} → m .make-row .result ≡ Cells t → RowFit t (start m .args .s .rows)
+fits m z = subst (λ (r : RowMade). RowFits r (start m .args .s .rows)) z (m .make-row .ensures .1 .0)
 
 make-row-requires : tie.Need-make-row-requires
 make-row-requires c κs =
@@ -43,7 +45,7 @@ returns c =
     let t = start m in
     let a = t .args in
     let k = m .make-row .ensures .1 .1 in (
-      no-frames (a .o) (find t) (regions t) (picture t) (a .w) (a .y) (a .s) (a .plane .now) _ _ (m .make-row .ensures .0) _ (c .before .before .t .given .1) (t .pre .2) k (c .if1 .taken),
+      λ rs n q. no-frames (a .o) (find t) rs (picture t) (a .w) (a .y) (a .s) (a .plane .now) _ _ (m .make-row .ensures .0 rs n q) _ (c .before .before .t .given .1) (t .pre .2) k (c .if1 .taken),
       record { plane = kept-fits (a .plane .now) _ (a .s .rows) k (m .make-row .kept .1 .1 .1 .1 .1 .1 .1 .0) (t .pre .2 .plane); width = t .pre .2 .width },
     )
 
@@ -52,10 +54,11 @@ end-row-requires c κs =
     let i = c .before in
     let m = i .before .before .before .before .before .before in
     let t = start m in
-    let a = t .args in (
+    let a = t .args in
+    let f = fits m (i .before .before .t .given .1) in (
       kept-fits (a .plane .now) _ (a .s .rows) (m .make-row .ensures .1 .1) (m .make-row .kept .1 .1 .1 .1 .1 .1 .1 .0) (t .pre .2 .plane),
-      frames-low (a .o) (find t) (regions t) (picture t) (a .w) (a .y) (a .s) (a .plane .now) _ _ (m .make-row .ensures .0) _ (i .before .before .t .given .1) (i .if1 .left),
-      subst RowFits (i .before .before .t .given .1) (m .make-row .ensures .1 .0),
+      f .low (omega (arith, i .if1 .left)),
+      f .few,
     )
 
 add-t26 : tie.Need-add-t26
@@ -74,8 +77,8 @@ returns-2 c =
     let m = i .before .before .before .before .before .before in
     let t = start m in
     let a = t .args in (
-      frames-added (a .o) (find t) (regions t) (picture t) (a .w) (a .y) (a .s) (a .plane .now) _ _ (m .make-row .ensures .0) _ (i .before .before .t .given .1) (t .pre .2) (m .make-row .ensures .1 .1) (i .if1 .left) _ (e .end-row .ensures .0),
-      record { plane = e .end-row .ensures .1; width = subst RowFits (i .before .before .t .given .1) (m .make-row .ensures .1 .0) },
+      λ rs n q. frames-added (a .o) (find t) rs (picture t) (a .w) (a .y) (a .s) (a .plane .now) _ _ (m .make-row .ensures .0 rs n q) _ (i .before .before .t .given .1) (t .pre .2) (m .make-row .ensures .1 .1) (i .if1 .left) _ (e .end-row .ensures .0),
+      record { plane = e .end-row .ensures .1; width = fits m (i .before .before .t .given .1) .few },
     )
 
 same-length-3 : tie.Need-same-length-3
@@ -86,7 +89,7 @@ returns-3 c =
     let m = c .before .before .before .before .before in
     let t = start m in
     let a = t .args in
-    (frames-out (a .o) (find t) (regions t) (picture t) (a .w) (a .y) (a .s) (a .plane .now) _ _ (m .make-row .ensures .0) _ (c .before .r .given .1), tt)
+    (λ rs n q. frames-out (a .o) (find t) rs (picture t) (a .w) (a .y) (a .s) (a .plane .now) _ _ (m .make-row .ensures .0 rs n q) _ (c .before .r .given .1), tt)
 
 pub add-frames-spec : {M : Type 1} → statement M
 add-frames-spec =

@@ -1,9 +1,6 @@
 -- `step::add_grid_row` meets its contract.
 use mathlib.Core.Path.{_∙_}
-use mathlib.Core.List.{List}
 use Rattle.lists.specs.Picture.{Picture, canvas}
-use Rattle.model.specs.declared.Rect.{Rect}
-use Rattle.regions.specs.Rects.{rectsOf}
 use Rattle.regions.specs.Regions.{Finder}
 use Rattle.walks.specs.Frame.{frameOf}
 use Rattle.walks.specs.Kinds.{grid}
@@ -24,9 +21,6 @@ picture t = canvas (t .args .w) (t .args .h) (t .args .layer .now)
 abbrev find : tie.Start → Finder
 find t = frameOf grid (picture t) (t .args .w) (t .args .h)
 
-abbrev regions : tie.Start → List Rect
-regions t = rectsOf (t .args .rects .now) (t .args .count)
-
 add-line-row-requires : tie.Need-add-line-row-requires
 add-line-row-requires c κs = c .before .before .before .before .before .pre .2
 
@@ -44,7 +38,7 @@ returns c =
     let g = c .before .before .before .before .before in
     let t = start g in
     let a = t .args in
-    (main-out (a .o) (find t) (regions t) (picture t) (a .w) (a .y) (a .s) (a .plane .now) _ _ (g .add-line-row .ensures .0) _ (c .before .r .given .1), tt)
+    (λ rs n m. main-out (a .o) (find t) rs (picture t) (a .w) (a .y) (a .s) (a .plane .now) _ _ (g .add-line-row .ensures .0) _ (c .before .r .given .1), tt)
 
 is-at-requires : tie.Need-is-at-requires
 is-at-requires c κs = search needs
@@ -67,7 +61,7 @@ returns-2 c =
     let i = g .before in
     let t = start (lined i) in
     let a = t .args in
-    (below-out (a .o) (find t) (regions t) (picture t) (a .w) (a .y) (a .s) (a .plane .now) _ _ (lined i .add-line-row .ensures .0) _ (i .before .before .before .t .given .1) _ (i .is-at .ensures) _ _ (g .add-line-row2 .ensures .0) _ (c .before .r2 .given .1), tt)
+    (λ rs n m. below-out (a .o) (find t) rs (picture t) (a .w) (a .y) (a .s) (a .plane .now) _ _ (lined i .add-line-row .ensures .0) _ (i .before .before .before .t .given .1) _ (i .is-at .ensures) _ _ (g .add-line-row2 .ensures .0) _ (c .before .r2 .given .1), tt)
 
 add-frames-requires : tie.Need-add-frames-requires
 add-frames-requires c κs =
@@ -85,8 +79,8 @@ returns-3 c =
     let i = g .before in
     let t = start (lined i) in
     let a = t .args in (
-      f .add-frames .ensures .0
-          ∙ lines-added (a .o) (find t) (regions t) (picture t) (a .w) (a .y) (a .s) (a .plane .now) _ _ (lined i .add-line-row .ensures .0) _ (i .before .before .before .t .given .1) _ (i .is-at .ensures) _ _ (g .add-line-row2 .ensures .0) _ (f .before .before .before .t2 .given .1),
+      λ rs n m. f .add-frames .ensures .0 rs n m
+          ∙ lines-added (a .o) (find t) rs (picture t) (a .w) (a .y) (a .s) (a .plane .now) _ _ (lined i .add-line-row .ensures .0) _ (i .before .before .before .t .given .1) _ (i .is-at .ensures) _ _ (g .add-line-row2 .ensures .0) _ (f .before .before .before .t2 .given .1),
       f .add-frames .ensures .1,
     )
 

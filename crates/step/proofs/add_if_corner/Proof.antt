@@ -45,7 +45,9 @@ is-corner-requires : tie.Need-is-corner-requires
 is-corner-requires c κs = search needs
 
 add-frame-requires : tie.Need-add-frame-requires
-add-frame-requires c κs = entry (c .before .before) .pre
+add-frame-requires c κs =
+    let t = entry (c .before .before) in
+    (t .pre .0, t .pre .1, t .pre .2, t .pre .3, t .pre .4, corner (c .before .before) (c .before .if1 .taken))
 
 same-length : tie.Need-same-length
 same-length c = search needs
@@ -54,12 +56,12 @@ returns : tie.Need-returns
 returns c =
     let g = c .before .before in
     let i = g .before .before .before in
-    (g .add-frame .ensures .0 ∙ rw (corner i (g .before .before .if1 .taken)), g .add-frame .ensures .1)
+    (λ rs n m. g .add-frame .ensures .0 rs n m ∙ rw (corner i (g .before .before .if1 .taken)), g .add-frame .ensures .1)
 
 returns-2 : tie.Need-returns-2
 returns-2 c =
     let t = entry (c .before) in
-    (rw (corner (c .before) (c .if1 .left)), (t .pre .3, kept-refl (t .args .plane .now) (t .args .row)))
+    (λ rs n m. rw (corner (c .before) (c .if1 .left)), (t .pre .3, kept-refl (t .args .plane .now) (t .args .row)))
 
 pub add-if-corner-spec : {M : Type 1} → statement M
 add-if-corner-spec =

@@ -1,29 +1,25 @@
 -- `step::make_row` meets its contract.
 use Prim.Native.Nat.{_-_}
 use native.Mathlib.Omega.{arith}
-use Rattle.lists.specs.Picture.{canvas}
-use Rattle.regions.specs.Rects.{rectsOf}
-use Rattle.walks.specs.Frame.{frameOf}
-use Rattle.walks.specs.Kinds.{grid}
 use Rattle.step.proofs.RowLaws.{Filling, filling-start, filling-more, filling-out, filling-end}
 use borrow.Author.Needs.{needs}
 use Rattle.step.proofs.make_row.Statement.{statement}
 use Rattle.step.proofs.make_row.Tie as tie
 
 abbrev Inv-loop : tie.InvT-loop
-Inv-loop o layer w h y rects count plane₀ row x₀ s₀ plane x s = Filling o (frameOf grid (canvas w h layer) w h) (rectsOf rects count) (canvas w h layer) w row y plane₀ s₀ plane x s
+Inv-loop o layer w h y found count plane₀ row x₀ s₀ plane x s = Filling o w h count layer found row y plane₀ s₀ plane x s
 
 abbrev μ-loop : tie.MeasureT-loop
-μ-loop o layer w h y rects count plane₀ row x₀ s₀ plane x s = w - x
+μ-loop o layer w h y found count plane₀ row x₀ s₀ plane x s = w - x
 
 loop-holds : tie.Need-loop-holds Inv-loop μ-loop
-loop-holds c = filling-start _ _ _ _ _ _ _ _ _ _
+loop-holds c = filling-start _ _ _ _ _ _ _ _ _ _ _
 
 add-if-corner-requires : tie.Need-add-if-corner-requires Inv-loop μ-loop
 add-if-corner-requires c κs =
     let l = c .before .before in
     let t = l .before .before .before .before in
-    (t .pre .0, c .before .loop-test .taken, t .pre .1, l .loop .inv .few, omega (arith, l .loop .inv .long, t .pre .2))
+    (t .pre .0, c .before .loop-test .taken, t .pre .1, l .loop .inv .fits, omega (arith, l .loop .inv .long, t .pre .2))
 
 enum-known-t : tie.Need-enum-known-t Inv-loop μ-loop
 enum-known-t c = search needs
@@ -57,7 +53,7 @@ same-length-2 : tie.Need-same-length-2 Inv-loop μ-loop
 same-length-2 c = search needs
 
 returns-2 : tie.Need-returns-2 Inv-loop μ-loop
-returns-2 c = let q = c .before .loop .inv in (filling-end q (c .loop-test .left), (q .few, q .kept))
+returns-2 c = let q = c .before .loop .inv in (filling-end q (c .loop-test .left), (q .fits, q .kept))
 
 pub make-row-spec : {M : Type 1} → statement M
 make-row-spec =

@@ -1,9 +1,9 @@
--- `step::rect_at` meets its contract.
+-- `lookup::rect_at` meets its contract.
 use Prim.Native.Nat.{_+_, _*_}
 use native.Mathlib.Omega.{arith}
 use borrow.Author.Needs.{needs}
-use Rattle.step.proofs.rect_at.Statement.{statement}
-use Rattle.step.proofs.rect_at.Tie as tie
+use Rattle.lookup.proofs.rect_at.Statement.{statement}
+use Rattle.lookup.proofs.rect_at.Tie as tie
 
 mul-p : tie.Need-mul-p
 mul-p c = search needs

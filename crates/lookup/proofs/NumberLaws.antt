@@ -1,0 +1,98 @@
+-- Corners that are sought, and frames that are numbered one after the other.
+use mathlib.Core.Path.{_≡_, sym, ap, _∙_, subst}
+use mathlib.Core.Bool.{true, false}
+use mathlib.Core.List.{List}
+use Prim.Native.Nat.{ℕ, _+_, _*_, _/_, _%_, _≤_, _<_, _^_}
+use native.Mathlib.Omega.{arith}
+use lib.Dec.{ltb}
+use lib.ListN.{length, getD, set}
+use lib.Seq.{getD-set-same, getD-set-other}
+use borrow.Author.Tests.{ltb-true, ltb-false}
+use Rattle.lists.specs.Picture.{canvas, at}
+use Rattle.lists.proofs.PlaceLaws.{at-canvas}
+use Rattle.lists.proofs.Tests.{by-flag, true-false}
+use Rattle.model.specs.declared.Rect.{Rect}
+use Rattle.regions.specs.Regions.{Finder, isCorner}
+use Rattle.lookup.specs.Lookup.{firstOf, numberOf, Numbered}
+use Rattle.lookup.specs.Numbers.{NextCorner, numberIn, Seen, Stored}
+use Rattle.lookup.specs.declared.Sought.{Sought}
+
+pub corner-start : (d : List ℕ) (size i : ℕ) → i ≤ size → NextCorner d size i i
+corner-start d size i h = record { from = omega arith; to = h; clear = λ j a b. absurd (omega arith) }
+
+module _ {d : List ℕ} {size i k : ℕ} (q : NextCorner d size i k) where
+  pub corner-more : k < size → isCorner (getD d k 0) ≡ false → NextCorner d size i (k + 1)
+  corner-more h e =
+      record {
+        from = omega (arith, q .from);
+        to = omega arith;
+        clear = λ j a b.
+            by-flag (ltb j k) (λ y. q .clear j a (ltb-true j k y))
+            (λ n.
+            let z : k ≡ j = omega (arith, ltb-false j k n) in
+            subst (λ (m : ℕ). isCorner (getD d m 0) ≡ false) z e);
+      }
+
+  pub corner-end : size ≤ k → NextCorner d size i size
+  corner-end h = let z : k ≡ size = omega (arith, q .to) in subst (NextCorner d size i) z q
+
+pub number-small : (s : Sought) (k n : ℕ) → k < 2 ^ 32 → n < 2 ^ 32 → numberIn s k n < 2 ^ 32
+number-small s k n a b = by-flag (s .framed) (λ y. rw y a) (λ z. rw z b)
+
+-- the frames before place i are numbered
+pub record Numbering (find : Finder) (rs : List Rect) (d : List ℕ) (w h : ℕ) (start : List ℕ) (i : ℕ) (found : List ℕ) : Type 0 where
+  pub along : i ≤ h * w
+  pub long : length found ≡ length start
+  pub numbers : Numbered find rs (canvas w h d) w i found
+
+pub numbering-start : (find : Finder) (rs : List Rect) (d : List ℕ) (w h : ℕ) (found : List ℕ) → Numbering find rs d w h found 0 found
+numbering-start find rs d w h found = record { along = omega arith; long = cc; numbers = λ i l. absurd (omega arith) }
+
+module _ {find : Finder} {rs : List Rect} {d : List ℕ} {w h : ℕ} {start : List ℕ} {i : ℕ} {found : List ℕ} (q : Numbering find rs d w h start i found) (less : i < h * w) (room : h * w ≤ length start)
+    {s : Sought} (v : Seen find d w (h * w) i s) where
+  -- a corner before the next one stands before place i
+  before : (j : ℕ) → j < s .at → isCorner (at (canvas w h d) w j) ≡ true → j < i
+  before j l e =
+      by-flag (ltb j i) (λ y. ltb-true j i y)
+      (λ n. true-false (sym (ap isCorner (at-canvas w h j (omega (arith, v .next .to)) d)) ∙ e) (v .next .clear j (ltb-false j i n) l))
+
+  module _ (k n : ℕ) (ke : k ≡ firstOf rs (s .frame)) (ne : length rs ≡ n) (out : List ℕ) (next : ℕ) (t : Stored s (numberIn s k n) (h * w) found out next) where
+    number : s .at < h * w → numberIn s k n ≡ numberOf find rs (s .at % w) (s .at / w)
+    number l = rw (ke, ← ne) (v .frame l rs)
+
+    stored : s .at < h * w → Numbered find rs (canvas w h d) w (s .at + 1) (set found (s .at) (numberIn s k n))
+    stored l j b e =
+        by-flag (ltb j (s .at))
+        (λ y.
+        let a : j < s .at = ltb-true j (s .at) y in
+        getD-set-other found (s .at) j (numberIn s k n) 0 (λ z. absurd (omega arith)) ∙ q .numbers j (before j a e) e)
+        (λ m.
+        let z : s .at ≡ j = omega (arith, ltb-false j (s .at) m) in
+        subst (λ (c : ℕ). getD (set found (s .at) (numberIn s k n)) c 0 ≡ numberOf find rs (c % w) (c / w)) z
+        (getD-set-same found (s .at) (numberIn s k n) 0 (omega (arith, q .long)) ∙ number l))
+
+    pub numbering-next : length out ≡ length found → (i < next) × Numbering find rs d w h start next out
+    numbering-next len =
+        by-flag (ltb (s .at) (h * w))
+        (λ y.
+        let l : s .at < h * w = ltb-true (s .at) (h * w) y in
+        let p = t .put l in
+        let e : out ≡ set found (s .at) (numberIn s k n) = p .0 in
+        let f : next ≡ s .at + 1 = p .1 in (
+          omega (arith, f, v .next .from),
+          record { along = omega (arith, f); long = len ∙ q .long; numbers = rw (e, f) (stored l) },
+        ))
+        (λ m.
+        let p = t .past (ltb-false (s .at) (h * w) m) in
+        let e : out ≡ found = p .0 in
+        let f : next ≡ h * w = p .1 in
+        let g : s .at ≡ h * w = omega (arith, ltb-false (s .at) (h * w) m, v .next .to) in (
+          omega (arith, f),
+          record { along = omega (arith, f); long = len ∙ q .long; numbers = rw (e, f) (λ j b c. q .numbers j (before j (omega (arith, g)) c) c) },
+        ))
+
+pub numbering-end : {find : Finder} {rs : List Rect} {d : List ℕ} {w h : ℕ} {start : List ℕ} {i : ℕ} {found : List ℕ} → Numbering find rs d w h start i found → h * w ≤ i
+    → Numbered find rs (canvas w h d) w (h * w) found
+numbering-end {find} {rs} {d} {w} {h} {start} {i} {found} q l =
+    let z : i ≡ h * w = omega (arith, q .along) in
+    subst (λ (m : ℕ). Numbered find rs (canvas w h d) w m found) z (q .numbers)

@@ -1,0 +1,59 @@
+-- `lookup::next_corner` meets its contract.
+use mathlib.Core.Path.{sym, _∙_}
+use Prim.Native.Nat.{_-_}
+use Rattle.lookup.specs.Numbers.{NextCorner}
+use Rattle.lookup.proofs.NumberLaws.{corner-start, corner-more, corner-end}
+use borrow.Author.Needs.{needs}
+use Rattle.lookup.proofs.next_corner.Statement.{statement}
+use Rattle.lookup.proofs.next_corner.Tie as tie
+
+abbrev Inv-loop : tie.InvT-loop
+Inv-loop layer size i k₀ k = NextCorner layer size i k
+
+abbrev μ-loop : tie.MeasureT-loop
+μ-loop layer size i k₀ k = size - k
+
+loop-holds : tie.Need-loop-holds Inv-loop μ-loop
+loop-holds c = corner-start _ _ _ (c .before .pre .0)
+
+mul-is-corner : tie.Need-mul-is-corner Inv-loop μ-loop
+mul-is-corner c = search needs
+
+shared-slice-read-is-corner : tie.Need-shared-slice-read-is-corner Inv-loop μ-loop
+shared-slice-read-is-corner c = search needs
+
+is-corner-requires : tie.Need-is-corner-requires Inv-loop μ-loop
+is-corner-requires c κs = search needs
+
+returns : tie.Need-returns Inv-loop μ-loop
+returns c = c .before .before .before .before .loop .inv
+
+add-k : tie.Need-add-k Inv-loop μ-loop
+add-k c = search needs
+
+loop-less : tie.Need-loop-less Inv-loop μ-loop
+loop-less c = search needs
+
+loop-again : tie.Need-loop-again Inv-loop μ-loop
+loop-again c =
+    let t = c .before .before .before in
+    corner-more (t .before .loop .inv) (t .loop-test .taken) (sym (c .before .is-corner .ensures) ∙ c .if1 .left)
+
+returns-2 : tie.Need-returns-2 Inv-loop μ-loop
+returns-2 c = corner-end (c .before .loop .inv) (c .loop-test .left)
+
+pub next-corner-spec : {M : Type 1} → statement M
+next-corner-spec =
+    tie.close
+    (tie.spec
+    Inv-loop
+    μ-loop
+    loop-holds
+    mul-is-corner
+    shared-slice-read-is-corner
+    is-corner-requires
+    returns
+    add-k
+    loop-less
+    loop-again
+    returns-2)

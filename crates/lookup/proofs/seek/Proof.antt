@@ -1,0 +1,75 @@
+-- `lookup::seek` meets its contract.
+use mathlib.Core.Path.{_≡_, sym, ap, _∙_}
+use Prim.Native.Nat.{_/_, _%_}
+use native.Mathlib.Omega.{arith}
+use lib.ListN.{length}
+use Rattle.lists.specs.Picture.{canvas}
+use Rattle.lists.proofs.PlaceLaws.{columns}
+use Rattle.regions.proofs.RegionLaws.{place-of}
+use Rattle.walks.specs.Frame.{frameOf, framedIn}
+use Rattle.walks.specs.Kinds.{grid}
+use Rattle.walks.specs.declared.Framed.{Framed}
+use Rattle.lookup.specs.Lookup.{firstIn}
+use Rattle.lookup.proofs.seek.Statement.{statement}
+use Rattle.lookup.proofs.seek.Tie as tie
+use borrow.Author.Needs.{needs}
+
+abbrev start : tie.After-next-corner → tie.Start
+start c = c .before .before
+
+-- the answer of the walks
+answered : (c : tie.After-recognize-rectangle) {F : Framed} → c .recognize-rectangle .result ≡ F
+    → framedIn F ≡ frameOf grid (canvas (start (c .before .before) .args .w) (start (c .before .before) .args .h) (start (c .before .before) .args .layer .now)) (start (c .before .before) .args .w) (start (c .before .before) .args .h)
+    (c .before .before .next-corner .result % start (c .before .before) .args .w) (c .before .before .next-corner .result / start (c .before .before) .args .w)
+answered c e = ap framedIn (sym e) ∙ c .recognize-rectangle .ensures
+
+mul-size : tie.Need-mul-size
+mul-size c = search needs
+
+next-corner-requires : tie.Need-next-corner-requires
+next-corner-requires c κs = search needs
+
+returns : tie.Need-returns
+returns c = record { next = c .before .next-corner .ensures; frame = λ l rs. absurd (omega (arith, c .if1 .taken)) }
+
+rem-recognize-rectangle : tie.Need-rem-recognize-rectangle
+rem-recognize-rectangle c = let a = start (c .before) .args in columns (a .w) (a .h) (c .before .next-corner .result) (c .if1 .left)
+
+div-recognize-rectangle : tie.Need-div-recognize-rectangle
+div-recognize-rectangle c = let a = start (c .before) .args in columns (a .w) (a .h) (c .before .next-corner .result) (c .if1 .left)
+
+recognize-rectangle-requires : tie.Need-recognize-rectangle-requires
+recognize-rectangle-requires c κs =
+    let t = start (c .before) in
+    place-of (t .args .w) (t .args .h) (c .before .next-corner .result) (length (t .args .layer .now)) (t .pre .0) (c .if1 .left)
+
+enum-known-f : tie.Need-enum-known-f
+enum-known-f c = search needs
+
+enum-told : tie.Need-enum-told
+enum-told c = search needs
+
+returns-2 : tie.Need-returns-2
+returns-2 c =
+    let g = c .before .before .before in
+    record { next = g .before .before .next-corner .ensures; frame = λ l rs. ap (firstIn rs) (answered g (c .before .f .given .1)) }
+
+returns-3 : tie.Need-returns-3
+returns-3 c =
+    let g = c .before .before in
+    record { next = g .before .before .next-corner .ensures; frame = λ l rs. ap (firstIn rs) (answered g (c .enum-told .given .1)) }
+
+pub seek-spec : {M : Type 1} → statement M
+seek-spec =
+    tie.close
+    (tie.spec
+    mul-size
+    next-corner-requires
+    returns
+    rem-recognize-rectangle
+    div-recognize-rectangle
+    recognize-rectangle-requires
+    enum-known-f
+    enum-told
+    returns-2
+    returns-3)

@@ -1,0 +1,35 @@
+-- What the functions that number the frames answer.
+use mathlib.Core.Bool.{false}
+use mathlib.Core.List.{List}
+use mathlib.Core.Path.{_≡_}
+use Prim.Native.Nat.{ℕ, _+_, _/_, _%_, _≤_, _<_}
+use lib.ListN.{length, getD, set}
+use Rattle.lists.specs.Choose.{choose}
+use Rattle.model.specs.declared.Rect.{Rect}
+use Rattle.regions.specs.Regions.{Finder, isCorner}
+use Rattle.lookup.specs.Lookup.{firstOf, numberOf}
+use Rattle.lookup.specs.declared.Sought.{Sought}
+
+-- what stands past the end of a run of rects
+abbrev pub none : Rect
+none = record { left = 0; top = 0; right = 0; bottom = 0 }
+
+-- no corner stands from place i to place k, of the first `size` characters
+pub record NextCorner (d : List ℕ) (size i k : ℕ) : Type 0 where
+  pub from : i ≤ k
+  pub to : k ≤ size
+  pub clear : (j : ℕ) → i ≤ j → j < k → isCorner (getD d j 0) ≡ false
+
+-- the number of a frame that was sought, by that of the first rect that contains it
+abbrev pub numberIn : Sought → ℕ → ℕ → ℕ
+numberIn s k count = choose (s .framed) k count
+
+-- the next corner from place i on, and the frame that starts there
+pub record Seen (find : Finder) (d : List ℕ) (w size i : ℕ) (s : Sought) : Type 0 where
+  pub next : NextCorner d size i (s .at)
+  pub frame : s .at < size → (rs : List Rect) → numberIn s (firstOf rs (s .frame)) (length rs) ≡ numberOf find rs (s .at % w) (s .at / w)
+
+-- the number of a frame is stored where it starts, and k is the place behind it; past the last place there is none
+pub record Stored (s : Sought) (n size : ℕ) (d out : List ℕ) (k : ℕ) : Type 0 where
+  pub put : s .at < size → (out ≡ set d (s .at) n) × (k ≡ s .at + 1)
+  pub past : size ≤ s .at → (out ≡ d) × (k ≡ size)

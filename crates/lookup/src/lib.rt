@@ -1,0 +1,162 @@
+// The regions as a lent run of rects, searched for the region of each frame of GRID.
+use model::Rect;
+use model::limits::REGIONS;
+use walks::Framed;
+ghost use mathlib.Core.Path.{_≡_};
+ghost use mathlib.Core.List.{_++_};
+ghost use Prim.Native.Nat.{_+_, _*_, _<_, _≤_, _^_};
+ghost use lib.ListN.{length, take, drop};
+ghost use Rattle.lists.specs.Picture.{canvas};
+ghost use Rattle.model.specs.Limits.{regionCount};
+ghost use Rattle.regions.specs.Rects.{rectAt, rectsOf, Layer};
+ghost use Rattle.walks.specs.Frame.{frameOf};
+ghost use Rattle.walks.specs.Kinds.{grid};
+ghost use Rattle.lookup.specs.Lookup.{firstOf, Numbered};
+ghost use Rattle.lookup.specs.Numbers.{NextCorner, numberIn, Seen, Stored};
+
+// Rect k of a slice of numbers.
+fn rect_at(nums: &[u32], k: usize) -> Rect
+    requires { ⌜ k * 4 + 4 ≤ length (now nums) ⌝ }
+    ensures { λ r. ⌜ r ≡ rectAt (now (nums .entry)) k ⌝ }
+{
+    let p = k * 4;
+    Rect {
+        left: nums[p] as usize,
+        top: nums[p + 1] as usize,
+        right: nums[p + 2] as usize,
+        bottom: nums[p + 3] as usize,
+    }
+}
+
+// The first `count` rects, in row order.
+fn fill(rects: &mut [Rect], nums: &[u32], count: usize)
+    requires { ⌜ (count ≤ length (now rects)) × (count * 4 ≤ length (now nums)) ⌝ }
+    ensures { λ _. ⌜ now (rects .exit) ≡ rectsOf (now (nums .entry)) count ++ drop count (now (rects .entry)) ⌝ }
+{
+    let mut i: usize = 0;
+    while i < count {
+        let r = rect_at(nums, i);
+        rects[i] = r;
+        i += 1;
+    }
+}
+
+// The number of the first of `count` rects that contains a frame, or `count`.
+fn first_containing(rects: &[Rect], count: usize, frame: Rect) -> usize
+    requires { ⌜ count ≤ length (now rects) ⌝ }
+    ensures { λ r. ⌜ r ≡ firstOf (take count (now (rects .entry))) frame ⌝ }
+{
+    let mut i: usize = 0;
+    while i < count {
+        let r = rects[i];
+        if r.contains(frame) {
+            return i;
+        }
+        i += 1;
+    }
+    count
+}
+
+// A corner of GRID, and the frame that starts there.
+struct Sought {
+    at: usize,
+    framed: bool,
+    frame: Rect,
+}
+
+// The first corner from place i on, or `size`.
+fn next_corner(layer: &[u32], size: usize, i: usize) -> usize
+    requires { ⌜ (i ≤ size) × (size ≤ length (now layer)) ⌝ }
+    ensures { λ r. ⌜ NextCorner (now (layer .entry)) size i r ⌝ }
+{
+    let mut k = i;
+    while k < size {
+        if regions::is_corner(layer[k]) {
+            return k;
+        }
+        k += 1;
+    }
+    size
+}
+
+// That corner, with its frame.
+fn seek(layer: &[u32], w: usize, h: usize, i: usize) -> Sought
+    requires { ⌜ Layer w h (length (now layer)) × (i < h * w) ⌝ }
+    ensures { λ r. ⌜ Seen (frameOf grid (canvas w h (now (layer .entry))) w h) (now (layer .entry)) w (h * w) i r ⌝ }
+{
+    let nowhere = Rect {
+        left: 0,
+        top: 0,
+        right: 0,
+        bottom: 0,
+    };
+    let size = h * w;
+    let at = next_corner(layer, size, i);
+    if size <= at {
+        return Sought {
+            at,
+            framed: false,
+            frame: nowhere,
+        };
+    }
+    match walks::recognize_rectangle(layer, w, h, at % w, at / w) {
+        Framed::Closed(f) => Sought {
+            at,
+            framed: true,
+            frame: f,
+        },
+        Framed::NotFramed(_) => Sought {
+            at,
+            framed: false,
+            frame: nowhere,
+        },
+    }
+}
+
+// The number of a frame: that of its region, or `count`.
+fn number_in(s: Sought, k: usize, count: usize) -> usize
+    ensures { λ r. ⌜ r ≡ numberIn s k count ⌝ }
+{
+    if s.framed { k } else { count }
+}
+
+// The number of a frame is stored where it starts: the next place, or `size`.
+fn put_number(found: &mut [u32], s: Sought, k: usize, count: usize, size: usize) -> usize
+    requires { ⌜ (size ≤ length (now found)) × (k < 2 ^ 32) × (count < 2 ^ 32) ⌝ }
+    ensures { λ r. ⌜ Stored s (numberIn s k count) size (now (found .entry)) (now (found .exit)) r ⌝ }
+{
+    let at = s.at;
+    if size <= at {
+        return size;
+    }
+    found[at] = number_in(s, k, count) as u32;
+    at + 1
+}
+
+// At each corner of GRID the number of the region of the frame that starts there, or `count`.
+pub fn number_frames(
+    layer: &[u32],
+    w: usize,
+    h: usize,
+    nums: &[u32],
+    count: usize,
+    found: &mut [u32],
+)
+    requires { ⌜ Layer w h (length (now layer)) × (count ≤ regionCount) × (count * 4 ≤ length (now nums)) × (h * w ≤ length (now found)) ⌝ }
+    ensures { λ _. ⌜ Numbered (frameOf grid (canvas w h (now (layer .entry))) w h) (rectsOf (now (nums .entry)) count) (canvas w h (now (layer .entry))) w (h * w) (now (found .exit)) ⌝ }
+{
+    let mut rects = [Rect {
+        left: 0,
+        top: 0,
+        right: 0,
+        bottom: 0,
+    }; REGIONS];
+    fill(&mut rects, nums, count);
+    let size = h * w;
+    let mut i: usize = 0;
+    while i < size {
+        let s = seek(layer, w, h, i);
+        let k = first_containing(&rects, count, s.frame);
+        i = put_number(found, s, k, count, size);
+    }
+}
