@@ -1,0 +1,2 @@
+-- Laws of the cursor and of its walks.
+pub mod CursorLaws

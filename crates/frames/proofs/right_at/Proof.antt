@@ -1,0 +1,24 @@
+-- `frames::right_at` meets its contract.
+use lib.ListN.{length}
+use Rattle.lists.specs.Picture.{canvas}
+use Rattle.walks.specs.Walk.{stepsIn}
+use Rattle.walks.specs.declared.Direction.the-variants.{Right}
+use Rattle.frames.proofs.CursorLaws.{fits, arrives}
+use borrow.Author.Needs.{needs}
+use Rattle.frames.proofs.right_at.Statement.{statement}
+use Rattle.frames.proofs.right_at.Tie as tie
+
+after-requires : tie.Need-after-requires
+after-requires c κs =
+    let t = c .before .before in
+    let a = t .args in
+    fits (a .lines) Right (canvas (a .w) (a .h) (a .layer .now)) (a .w) (a .h) (length (a .layer .now)) (a .x) (a .y) (t .pre) (t .fits .w .fits) (t .fits .h .fits) (stepsIn (c .along .result)) (c .along .ensures)
+
+returns : tie.Need-returns
+returns c = arrives _ Right _ _ (c .after .ensures) (c .before .along .ensures)
+
+pub right-at-spec : {M : Type 1} → statement M
+right-at-spec =
+    tie.close
+    (tie.spec
+    (λ c κs. search needs) after-requires returns)
