@@ -1,2 +1,4 @@
 -- Laws of the cursor and of its walks.
 pub mod CursorLaws
+pub mod Values
+pub mod Thin
