@@ -1,6 +1,5 @@
 -- Laws of where a walk leaves the cursor, and of four walks of one cursor.
 use mathlib.Core.Path.{_≡_, refl, sym, ap, _∙_, subst}
-use mathlib.Core.List.{List}
 use Prim.Native.Nat.{ℕ, _+_, _-_, _<_, _^_}
 use native.Mathlib.Omega.{arith}
 use Rattle.lists.specs.Answer.{ok, refused, _>>=_, _>>_}
@@ -10,13 +9,16 @@ use Rattle.model.specs.declared.Rect.{Rect}
 use Rattle.model.specs.declared.Refusal.{Refusal}
 use Rattle.walks.specs.Frame.{Place, closeOf, frameOf}
 use Rattle.walks.specs.Kinds.{thin, grid, name}
-use Rattle.walks.specs.Walk.{goOf, stepsIn}
+use Rattle.walks.specs.Walk.{stepsIn}
 use Rattle.walks.specs.declared.Direction.{Direction}
 use Rattle.walks.specs.declared.Direction.the-variants.{Right, Down, Left, Up}
 use Rattle.walks.specs.declared.Walked.{Walked}
+use Rattle.walks.specs.declared.Walked.the-variants.{Steps, Stopped}
+use Rattle.walks.proofs.FrameLaws.{stops-right, stops-down, stops-left, stops-up, walked}
 use Rattle.walks.proofs.WalkLaws.{found-bound}
+use Rattle.frames.specs.Answers.{closedOf, sidesOf}
 use Rattle.frames.specs.Body.{bodyOf}
-use Rattle.frames.specs.Characters.{searchedOf, allowedOf, kindOf}
+use Rattle.frames.specs.Characters.{kindOf}
 use Rattle.frames.specs.Cursor.{alongOf, point, placeOf, placeAfter, MoveFits}
 use Rattle.frames.specs.declared.Lines.{Lines}
 use Rattle.frames.specs.declared.Lines.the-variants.{Region, Rectangle, Name, Body}
@@ -48,6 +50,63 @@ all-walked m n k e = rw e
 
 pub all-stopped : (m : Reading ℕ) (n : Reading Rect) (r : Refusal) → m ≡ refused r → refused r ≡ _>>_ m n
 all-stopped m n r e = rw e
+
+-- the walks of one cursor over a picture
+module _ (lines : Lines) (p : Picture) (w h : ℕ) where
+  abbrev go : Direction → Point → Reading ℕ
+  go d at = alongOf lines d p w h (at .x) (at .y)
+
+  -- a walk from a place moved the cursor to b, and ended so
+  abbrev pub Moves : Direction → Point → Point → Walked → Type 0
+  Moves d at b n = (b ≡ placeAfter d at (go d at)) × (stepsIn n ≡ go d at)
+
+  came : (d : Direction) (at b : Point) (n : Walked) → Moves d at b n → b ≡ placeAfter d at (stepsIn n)
+  came d at b n m = m .0 ∙ ap (placeAfter d at) (sym (m .1))
+
+  pub stays : (d : Direction) (at b : Point) (n : Walked) (len : ℕ) → Moves d at b n → Place w h (at .x) (at .y) len → Place w h (b .x) (b .y) len
+  stays d at b n len m i = subst (λ (z : Point). Place w h (z .x) (z .y) len) (sym (m .0)) (kept lines d p w h len at i (go d at) refl)
+
+  -- around a frame: the first refusal of the four walks, or whether the cursor is back
+  module _ (x y : ℕ) where
+    pub around : (n1 n2 n3 n4 : Walked) (a b c e : Point) → Moves Right (point x y) a n1 → Moves Down a b n2 → Moves Left b c n3 → Moves Up c e n4
+        → closedOf x y (b .x) (b .y) (e .x) (e .y) n1 n2 n3 n4 ≡ frameOf (kindOf lines) p w h x y
+    around (Stopped r) n2 n3 n4 a b c e m1 m2 m3 m4 = sym (stops-right (kindOf lines) p w h x y r (sym (m1 .1)))
+    around (Steps i) (Stopped r) n3 n4 a b c e m1 m2 m3 m4 =
+        let m2' = subst (λ (z : Point). Moves Down z b (Stopped r)) (came Right (point x y) a (Steps i) m1) m2 in
+        sym (stops-down (kindOf lines) p w h x y r i (sym (m1 .1)) (sym (m2' .1)))
+    around (Steps i) (Steps j) (Stopped r) n4 a b c e m1 m2 m3 m4 =
+        let m2' = subst (λ (z : Point). Moves Down z b (Steps j)) (came Right (point x y) a (Steps i) m1) m2 in
+        let m3' = subst (λ (z : Point). Moves Left z c (Stopped r)) (came Down _ b (Steps j) m2') m3 in
+        sym (stops-left (kindOf lines) p w h x y r i (sym (m1 .1)) j (sym (m2' .1)) (sym (m3' .1)))
+    around (Steps i) (Steps j) (Steps k) (Stopped r) a b c e m1 m2 m3 m4 =
+        let m2' = subst (λ (z : Point). Moves Down z b (Steps j)) (came Right (point x y) a (Steps i) m1) m2 in
+        let m3' = subst (λ (z : Point). Moves Left z c (Steps k)) (came Down _ b (Steps j) m2') m3 in
+        let m4' = subst (λ (z : Point). Moves Up z e (Stopped r)) (came Left _ c (Steps k) m3') m4 in
+        sym (stops-up (kindOf lines) p w h x y r i (sym (m1 .1)) j (sym (m2' .1)) k (sym (m3' .1)) (sym (m4' .1)))
+    around (Steps i) (Steps j) (Steps k) (Steps l) a b c e m1 m2 m3 m4 =
+        let m2' = subst (λ (z : Point). Moves Down z b (Steps j)) (came Right (point x y) a (Steps i) m1) m2 in
+        let m3' = subst (λ (z : Point). Moves Left z c (Steps k)) (came Down _ b (Steps j) m2') m3 in
+        let m4' = subst (λ (z : Point). Moves Up z e (Steps l)) (came Left _ c (Steps k) m3') m4 in
+        (λ u. closeOf x y (came Up _ e (Steps l) m4' u .x) (came Up _ e (Steps l) m4' u .y) (came Down _ b (Steps j) m2' u .x) (came Down _ b (Steps j) m2' u .y))
+        ∙ sym (walked (kindOf lines) p w h x y i j k l (sym (m1 .1)) (sym (m2' .1)) (sym (m3' .1)) (sym (m4' .1)))
+
+-- to the sides of the body, from one place
+module _ (p : Picture) (w h x y : ℕ) where
+  sided : (u d l r : Reading ℕ) → _>>_ {B = Rect} (_>>_ u (_>>_ d (_>>_ l r))) (ok (record { left = placeAfter Left (point x y) l .x; top = placeAfter Up (point x y) u .y; right = placeAfter Right (point x y) r .x + 1; bottom = placeAfter Down (point x y) d .y + 1 }))
+      ≡ (_>>=_ u (λ u. _>>=_ d (λ d. _>>=_ l (λ l. _>>=_ {B = Rect} r (λ r. ok (record { left = x - l; top = y - u; right = x + r + 1; bottom = y + d + 1 }))))))
+  sided (refused e) d l r = refl
+  sided (ok u) (refused e) l r = refl
+  sided (ok u) (ok d) (refused e) r = refl
+  sided (ok u) (ok d) (ok l) (refused e) = refl
+  sided (ok u) (ok d) (ok l) (ok r) = refl
+
+  pub sides-found : (n1 n2 n3 n4 : Walked) (a b c e : Point) → Moves Body p w h Up (point x y) a n1 → Moves Body p w h Down (point x y) b n2 → Moves Body p w h Left (point x y) c n3 → Moves Body p w h Right (point x y) e n4
+      → sidesOf (c .x) (a .y) (e .x) (b .y) n1 n2 n3 n4 ≡ bodyOf p w h x y
+  unfolding bodyOf
+  sides-found n1 n2 n3 n4 a b c e m1 m2 m3 m4 =
+      (λ u. sidesOf (came Body p w h Left (point x y) c n3 m3 u .x) (came Body p w h Up (point x y) a n1 m1 u .y) (came Body p w h Right (point x y) e n4 m4 u .x) (came Body p w h Down (point x y) b n2 m2 u .y) n1 n2 n3 n4)
+      ∙ sided (stepsIn n1) (stepsIn n2) (stepsIn n3) (stepsIn n4)
+      ∙ rw (m1 .1, m2 .1, m3 .1, m4 .1)
 
 -- the kinds of frames that the lines have
 region-kind : kindOf Region ≡ thin

@@ -2,3 +2,4 @@
 pub mod CursorLaws
 pub mod Values
 pub mod Thin
+pub mod Chain
