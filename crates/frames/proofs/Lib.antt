@@ -3,3 +3,4 @@ pub mod CursorLaws
 pub mod Values
 pub mod Thin
 pub mod Chain
+pub mod Single
