@@ -174,7 +174,7 @@ fn add_frame(
     ensures fits { λ r. ⌜ RowFits r ⌝ }
     ensures before { λ _. ⌜ KeptBefore (now (plane .entry)) (now (plane .exit)) row ⌝ }
 {
-    match walks::recognize_rectangle(layer, w, h, x, y) {
+    match frames::recognize_rectangle(layer, w, h, x, y) {
         Framed::Closed(f) => match region_of(rects, count, f) {
             RegionFound::Number(i) => add_cells(o, x, i, plane, row, s),
             RegionFound::NoRegion(r) => RowMade::NoCells(r),

@@ -18,7 +18,6 @@ returns-4 c = rw (c .before .enum-told4 .given .1) (c .along-body .ensures)
 returns-5 : tie.Need-returns-5
 returns-5 c = rw (c .before .enum-told5 .given .1) (c .along-crossing .ensures)
 
-
 pub along-spec : {M : Type 1} → statement M
 along-spec =
     tie.close

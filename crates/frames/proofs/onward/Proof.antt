@@ -28,7 +28,6 @@ sub-t10 c = rw (c .enum-told4 .given .1) at (c .before .before .pre)
 returns-4 : tie.Need-returns-4
 returns-4 c = (rw (c .enum-told4 .given .1), refl)
 
-
 pub onward-spec : {M : Type 1} → statement M
 onward-spec =
     tie.close
