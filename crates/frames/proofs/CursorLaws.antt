@@ -7,16 +7,16 @@ use Rattle.lists.specs.Picture.{Picture}
 use Rattle.model.specs.Refusals.{Reading}
 use Rattle.model.specs.declared.Rect.{Rect}
 use Rattle.model.specs.declared.Refusal.{Refusal}
-use Rattle.walks.specs.Frame.{Place, closeOf, frameOf}
+use Rattle.walks.specs.Frame.{Place, rectOf, closeOf, frameOf}
 use Rattle.walks.specs.Kinds.{thin, grid, name}
 use Rattle.walks.specs.Walk.{stepsIn}
 use Rattle.walks.specs.declared.Direction.{Direction}
 use Rattle.walks.specs.declared.Direction.the-variants.{Right, Down, Left, Up}
 use Rattle.walks.specs.declared.Walked.{Walked}
 use Rattle.walks.specs.declared.Walked.the-variants.{Steps, Stopped}
-use Rattle.walks.proofs.FrameLaws.{stops-right, stops-down, stops-left, stops-up, walked}
+use Rattle.walks.proofs.FrameLaws.{closed, stops-right, stops-down, stops-left, stops-up, walked}
 use Rattle.walks.proofs.WalkLaws.{found-bound}
-use Rattle.frames.specs.Answers.{closedOf, sidesOf}
+use Rattle.frames.specs.Answers.{allOf, closedOf}
 use Rattle.frames.specs.Body.{bodyOf}
 use Rattle.frames.specs.Characters.{kindOf}
 use Rattle.frames.specs.Cursor.{alongOf, point, placeOf, placeAfter, MoveFits}
@@ -91,22 +91,26 @@ module _ (lines : Lines) (p : Picture) (w h : ℕ) where
         ∙ sym (walked (kindOf lines) p w h x y i j k l (sym (m1 .1)) (sym (m2' .1)) (sym (m3' .1)) (sym (m4' .1)))
 
 -- to the sides of the body, from one place
-module _ (p : Picture) (w h x y : ℕ) where
-  sided : (u d l r : Reading ℕ) → _>>_ {B = Rect} (_>>_ u (_>>_ d (_>>_ l r))) (ok (record { left = placeAfter Left (point x y) l .x; top = placeAfter Up (point x y) u .y; right = placeAfter Right (point x y) r .x + 1; bottom = placeAfter Down (point x y) d .y + 1 }))
-      ≡ (_>>=_ u (λ u. _>>=_ d (λ d. _>>=_ l (λ l. _>>=_ {B = Rect} r (λ r. ok (record { left = x - l; top = y - u; right = x + r + 1; bottom = y + d + 1 }))))))
-  sided (refused e) d l r = refl
-  sided (ok u) (refused e) l r = refl
-  sided (ok u) (ok d) (refused e) r = refl
-  sided (ok u) (ok d) (ok l) (refused e) = refl
-  sided (ok u) (ok d) (ok l) (ok r) = refl
+module _ (lines : Lines) (p : Picture) (w h x y : ℕ) where
+  abbrev sides : (u d l r : Reading ℕ) → Reading Rect
+  sides u d l r = _>>=_ u (λ u. _>>=_ d (λ d. _>>=_ l (λ l. _>>=_ r (λ r. ok (record { left = x - l; top = y - u; right = x + r + 1; bottom = y + d + 1 })))))
 
-  pub sides-found : (n1 n2 n3 n4 : Walked) (a b c e : Point) → Moves Body p w h Up (point x y) a n1 → Moves Body p w h Down (point x y) b n2 → Moves Body p w h Left (point x y) c n3 → Moves Body p w h Right (point x y) e n4
-      → sidesOf (c .x) (a .y) (e .x) (b .y) n1 n2 n3 n4 ≡ bodyOf p w h x y
+  found : (u d l r : Reading ℕ) → _>>_ (_>>_ u (_>>_ d (_>>_ l r))) (ok (rectOf (placeAfter Left (point x y) l .x) (placeAfter Up (point x y) u .y) (placeAfter Right (point x y) r .x) (placeAfter Down (point x y) d .y))) ≡ sides u d l r
+  found (refused e) d l r = refl
+  found (ok u) (refused e) l r = refl
+  found (ok u) (ok d) (refused e) r = refl
+  found (ok u) (ok d) (ok l) (refused e) = refl
+  found (ok u) (ok d) (ok l) (ok r) = refl
+
+  pub sides-found : lines ≡ Body → (n1 n2 n3 n4 : Walked) (a b c e : Point) → Moves lines p w h Up (point x y) a n1 → Moves lines p w h Down (point x y) b n2 → Moves lines p w h Left (point x y) c n3 → Moves lines p w h Right (point x y) e n4
+      → closedOf (c .x) (a .y) (e .x) (b .y) (c .x) (a .y) n1 n2 n3 n4 ≡ bodyOf p w h x y
   unfolding bodyOf
-  sides-found n1 n2 n3 n4 a b c e m1 m2 m3 m4 =
-      (λ u. sidesOf (came Body p w h Left (point x y) c n3 m3 u .x) (came Body p w h Up (point x y) a n1 m1 u .y) (came Body p w h Right (point x y) e n4 m4 u .x) (came Body p w h Down (point x y) b n2 m2 u .y) n1 n2 n3 n4)
-      ∙ sided (stepsIn n1) (stepsIn n2) (stepsIn n3) (stepsIn n4)
-      ∙ rw (m1 .1, m2 .1, m3 .1, m4 .1)
+  sides-found q n1 n2 n3 n4 a b c e m1 m2 m3 m4 =
+      ap (_>>_ (allOf n1 n2 n3 n4)) (closed (c .x) (a .y) (c .x) (a .y) (e .x) (b .y) refl refl)
+      ∙ (λ u. _>>_ (allOf n1 n2 n3 n4) (ok (rectOf (came lines p w h Left (point x y) c n3 m3 u .x) (came lines p w h Up (point x y) a n1 m1 u .y) (came lines p w h Right (point x y) e n4 m4 u .x) (came lines p w h Down (point x y) b n2 m2 u .y))))
+      ∙ found (stepsIn n1) (stepsIn n2) (stepsIn n3) (stepsIn n4)
+      ∙ (λ u. sides (m1 .1 u) (m2 .1 u) (m3 .1 u) (m4 .1 u))
+      ∙ ap (λ (z : Lines). sides (alongOf z Up p w h x y) (alongOf z Down p w h x y) (alongOf z Left p w h x y) (alongOf z Right p w h x y)) q
 
 -- the kinds of frames that the lines have
 region-kind : kindOf Region ≡ thin

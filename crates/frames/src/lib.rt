@@ -20,7 +20,7 @@ ghost use Rattle.walks.specs.declared.Direction.the-variants.{Right, Down, Left
 ghost use Rattle.frames.specs.Cursor.{point, alongOf, placeOf, onward, placeAfter, Onward, MoveFits};
 ghost use Rattle.frames.specs.Characters.{kindOf};
 ghost use Rattle.frames.specs.Body.{bodyOf};
-ghost use Rattle.frames.specs.Answers.{allOf, closedOf, sidesOf};
+ghost use Rattle.frames.specs.Answers.{allOf, closedOf};
 ghost use Rattle.frames.specs.declared.Lines.the-variants.{Region, Rectangle, Name, Body, Crossing};
 
 // A column and a row.
@@ -173,56 +173,48 @@ fn after(d: Direction, x: usize, y: usize, walked: Walked) -> Moved
     }
 }
 
-// Right from column x of row y.
+// A walk from column x of row y, and where it leads to.
+fn walk_at(
+    d: Direction,
+    layer: &[u32],
+    w: usize,
+    h: usize,
+    x: usize,
+    y: usize,
+    lines: Lines,
+) -> Moved
+    requires { ⌜ Place w h x y (length (now layer)) ⌝ }
+    ensures { λ r. ⌜ (placeOf r ≡ placeAfter d (point x y) (alongOf lines d (canvas w h (now (layer .entry))) w h x y)) × (stepsIn (r .walked) ≡ alongOf lines d (canvas w h (now (layer .entry))) w h x y) ⌝ }
+{
+    after(d, x, y, along(lines, d, layer, w, h, x, y))
+}
+
 fn right_at(layer: &[u32], w: usize, h: usize, x: usize, y: usize, lines: Lines) -> Moved
     requires { ⌜ Place w h x y (length (now layer)) ⌝ }
     ensures { λ r. ⌜ (placeOf r ≡ placeAfter Right (point x y) (alongOf lines Right (canvas w h (now (layer .entry))) w h x y)) × (stepsIn (r .walked) ≡ alongOf lines Right (canvas w h (now (layer .entry))) w h x y) ⌝ }
 {
-    after(
-        Direction::Right,
-        x,
-        y,
-        along(lines, Direction::Right, layer, w, h, x, y),
-    )
+    walk_at(Direction::Right, layer, w, h, x, y, lines)
 }
 
-// Down from column x of row y.
 fn down_at(layer: &[u32], w: usize, h: usize, x: usize, y: usize, lines: Lines) -> Moved
     requires { ⌜ Place w h x y (length (now layer)) ⌝ }
     ensures { λ r. ⌜ (placeOf r ≡ placeAfter Down (point x y) (alongOf lines Down (canvas w h (now (layer .entry))) w h x y)) × (stepsIn (r .walked) ≡ alongOf lines Down (canvas w h (now (layer .entry))) w h x y) ⌝ }
 {
-    after(
-        Direction::Down,
-        x,
-        y,
-        along(lines, Direction::Down, layer, w, h, x, y),
-    )
+    walk_at(Direction::Down, layer, w, h, x, y, lines)
 }
 
-// Left from column x of row y.
 fn left_at(layer: &[u32], w: usize, h: usize, x: usize, y: usize, lines: Lines) -> Moved
     requires { ⌜ Place w h x y (length (now layer)) ⌝ }
     ensures { λ r. ⌜ (placeOf r ≡ placeAfter Left (point x y) (alongOf lines Left (canvas w h (now (layer .entry))) w h x y)) × (stepsIn (r .walked) ≡ alongOf lines Left (canvas w h (now (layer .entry))) w h x y) ⌝ }
 {
-    after(
-        Direction::Left,
-        x,
-        y,
-        along(lines, Direction::Left, layer, w, h, x, y),
-    )
+    walk_at(Direction::Left, layer, w, h, x, y, lines)
 }
 
-// Up from column x of row y.
 fn up_at(layer: &[u32], w: usize, h: usize, x: usize, y: usize, lines: Lines) -> Moved
     requires { ⌜ Place w h x y (length (now layer)) ⌝ }
     ensures { λ r. ⌜ (placeOf r ≡ placeAfter Up (point x y) (alongOf lines Up (canvas w h (now (layer .entry))) w h x y)) × (stepsIn (r .walked) ≡ alongOf lines Up (canvas w h (now (layer .entry))) w h x y) ⌝ }
 {
-    after(
-        Direction::Up,
-        x,
-        y,
-        along(lines, Direction::Up, layer, w, h, x, y),
-    )
+    walk_at(Direction::Up, layer, w, h, x, y, lines)
 }
 
 // Walks right and moves the cursor there; a walk that is refused leaves it where it was.
@@ -313,7 +305,8 @@ fn close(x: usize, y: usize, cx: usize, cy: usize, bx: usize, by: usize) -> Fram
     Framed::NotFramed(Refusal::RectangleNotClosed(cx, cy))
 }
 
-// What four walks around a frame found.
+// What four walks found: the rect from column x of row y to column bx of row by, if they ended where it begins, in
+// column cx of row cy; or their first refusal.
 fn closed(
     x: usize,
     y: usize,
@@ -374,48 +367,59 @@ pub fn recognize_name(layer: &[u32], w: usize, h: usize) -> Framed
     frame(layer, w, h, 0, 0, Lines::Name)
 }
 
-// What four walks to the sides of the body found.
-fn sides(
-    left: usize,
-    top: usize,
-    right: usize,
-    bottom: usize,
-    a: Walked,
-    b: Walked,
-    c: Walked,
-    d: Walked,
-) -> Framed
-    requires { ⌜ (right + 1 < 2 ^ 64) × (bottom + 1 < 2 ^ 64) ⌝ }
-    ensures { λ r. ⌜ framedIn r ≡ sidesOf left top right bottom a b c d ⌝ }
+// The rect whose sides four walks from column x of row y come to: the cursor is set back there after each.
+fn sides(layer: &[u32], w: usize, h: usize, x: usize, y: usize, lines: Lines) -> Framed
+    requires { ⌜ Place w h x y (length (now layer)) × (lines ≡ Body) ⌝ }
+    ensures { λ r. ⌜ framedIn r ≡ bodyOf (canvas w h (now (layer .entry))) w h x y ⌝ }
 {
-    match all(a, b, c, d) {
-        Walked::Steps(_) => Framed::Closed(Rect {
-            left,
-            top,
-            right: right + 1,
-            bottom: bottom + 1,
-        }),
-        Walked::Stopped(r) => Framed::NotFramed(r),
-    }
+    let mut cursor = Point { x, y };
+    let up = search_up(layer, w, h, &mut cursor, lines);
+    let top = cursor.y;
+    cursor = Point { x, y };
+    let down = search_down(layer, w, h, &mut cursor, lines);
+    let bottom = cursor.y;
+    cursor = Point { x, y };
+    let left = search_left(layer, w, h, &mut cursor, lines);
+    let first = cursor.x;
+    cursor = Point { x, y };
+    let right = search_right(layer, w, h, &mut cursor, lines);
+    closed(
+        first,
+        top,
+        cursor.x,
+        bottom,
+        first,
+        top,
+        up,
+        down,
+        left,
+        right,
+    )
 }
 
-// The body of the table whose main crossing stands in column x of row y: the cursor is set back there after each walk.
+// The body of the table whose main crossing stands in column x of row y.
 pub fn recognize_body(layer: &[u32], w: usize, h: usize, x: usize, y: usize) -> Framed
     requires { ⌜ Place w h x y (length (now layer)) ⌝ }
     ensures { λ r. ⌜ framedIn r ≡ bodyOf (canvas w h (now (layer .entry))) w h x y ⌝ }
 {
+    sides(layer, w, h, x, y, Lines::Body)
+}
+
+// A walk right from column x of row y, on a cursor of its own.
+fn right_from(layer: &[u32], w: usize, h: usize, x: usize, y: usize, lines: Lines) -> Walked
+    requires { ⌜ Place w h x y (length (now layer)) ⌝ }
+    ensures { λ r. ⌜ stepsIn r ≡ alongOf lines Right (canvas w h (now (layer .entry))) w h x y ⌝ }
+{
     let mut cursor = Point { x, y };
-    let up = search_up(layer, w, h, &mut cursor, Lines::Body);
-    let top = cursor.y;
-    cursor = Point { x, y };
-    let down = search_down(layer, w, h, &mut cursor, Lines::Body);
-    let bottom = cursor.y;
-    cursor = Point { x, y };
-    let left = search_left(layer, w, h, &mut cursor, Lines::Body);
-    let first = cursor.x;
-    cursor = Point { x, y };
-    let right = search_right(layer, w, h, &mut cursor, Lines::Body);
-    sides(first, top, cursor.x, bottom, up, down, left, right)
+    search_right(layer, w, h, &mut cursor, lines)
+}
+
+fn down_from(layer: &[u32], w: usize, h: usize, x: usize, y: usize, lines: Lines) -> Walked
+    requires { ⌜ Place w h x y (length (now layer)) ⌝ }
+    ensures { λ r. ⌜ stepsIn r ≡ alongOf lines Down (canvas w h (now (layer .entry))) w h x y ⌝ }
+{
+    let mut cursor = Point { x, y };
+    search_down(layer, w, h, &mut cursor, lines)
 }
 
 // The walk to an annotation crossing on the right of column x of row y.
@@ -423,8 +427,7 @@ pub fn crossing_right(layer: &[u32], w: usize, h: usize, x: usize, y: usize) -> 
     requires { ⌜ Place w h x y (length (now layer)) ⌝ }
     ensures { λ r. ⌜ stepsIn r ≡ alongOf Crossing Right (canvas w h (now (layer .entry))) w h x y ⌝ }
 {
-    let mut cursor = Point { x, y };
-    search_right(layer, w, h, &mut cursor, Lines::Crossing)
+    right_from(layer, w, h, x, y, Lines::Crossing)
 }
 
 // The walk to one below.
@@ -432,6 +435,5 @@ pub fn crossing_below(layer: &[u32], w: usize, h: usize, x: usize, y: usize) -> 
     requires { ⌜ Place w h x y (length (now layer)) ⌝ }
     ensures { λ r. ⌜ stepsIn r ≡ alongOf Crossing Down (canvas w h (now (layer .entry))) w h x y ⌝ }
 {
-    let mut cursor = Point { x, y };
-    search_down(layer, w, h, &mut cursor, Lines::Crossing)
+    down_from(layer, w, h, x, y, Lines::Crossing)
 }
