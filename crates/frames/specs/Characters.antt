@@ -10,43 +10,35 @@ use Rattle.walks.specs.declared.Direction.the-variants.{Right, Down, Left, Up}
 use Rattle.frames.specs.declared.Lines.{Lines}
 use Rattle.frames.specs.declared.Lines.the-variants.{Region, Rectangle, Name, Body, Crossing}
 
--- a frame is walked right, down, left and up: the corner that ends each side
+-- of four, that of a direction
+abbrev pub toward : {A : Type 0} → Direction → A → A → A → A → A
+toward Right right down left up = right
+toward Down right down left up = down
+toward Left right down left up = left
+toward Up right down left up = up
+
+-- a frame is walked right, down, left and up: the corner that ends each side, and the side
 abbrev pub cornerOf : Kind → Direction → List ℕ
-cornerOf K Right = K .topRight
-cornerOf K Down = K .bottomRight
-cornerOf K Left = K .bottomLeft
-cornerOf K Up = K .topLeft
+cornerOf K d = toward d (K .topRight) (K .bottomRight) (K .bottomLeft) (K .topLeft)
 
 abbrev pub sideOf : Kind → Direction → List ℕ
-sideOf K Right = K .top
-sideOf K Down = K .right
-sideOf K Left = K .bottom
-sideOf K Up = K .left
+sideOf K d = toward d (K .top) (K .right) (K .bottom) (K .left)
 
--- the characters that end a walk; no walk goes left or up to an annotation crossing
+-- the characters that end a walk
 abbrev pub searchedOf : Lines → Direction → List ℕ
 searchedOf Region d = cornerOf thin d
 searchedOf Rectangle d = cornerOf grid d
 searchedOf Name d = cornerOf name d
-searchedOf Body Right = ╡ ∷ []
-searchedOf Body Down = ╨ ∷ []
-searchedOf Body Left = ╞ ∷ []
-searchedOf Body Up = ╥ ∷ []
-searchedOf Crossing d = ╬ ∷ []
+searchedOf Body d = toward d (╡ ∷ []) (╨ ∷ []) (╞ ∷ []) (╥ ∷ [])
+searchedOf Crossing d = toward d (╬ ∷ []) (╬ ∷ []) (╬ ∷ []) (╬ ∷ [])
 
--- the characters that a walk goes over
+-- the characters that a walk goes over; none goes left or up to an annotation crossing
 abbrev pub allowedOf : Lines → Direction → List ℕ
 allowedOf Region d = sideOf thin d
 allowedOf Rectangle d = sideOf grid d
 allowedOf Name d = sideOf name d
-allowedOf Body Right = ═ ∷ ╪ ∷ ╧ ∷ ╤ ∷ ╬ ∷ []
-allowedOf Body Down = ║ ∷ ╫ ∷ ╟ ∷ ╢ ∷ ╬ ∷ []
-allowedOf Body Left = ═ ∷ ╪ ∷ ╧ ∷ ╤ ∷ []
-allowedOf Body Up = ║ ∷ ╫ ∷ ╟ ∷ ╢ ∷ []
-allowedOf Crossing Right = ═ ∷ ╪ ∷ []
-allowedOf Crossing Down = ║ ∷ ╫ ∷ []
-allowedOf Crossing Left = ═ ∷ ╪ ∷ []
-allowedOf Crossing Up = ║ ∷ ╫ ∷ []
+allowedOf Body d = toward d (═ ∷ ╪ ∷ ╧ ∷ ╤ ∷ ╬ ∷ []) (║ ∷ ╫ ∷ ╟ ∷ ╢ ∷ ╬ ∷ []) (═ ∷ ╪ ∷ ╧ ∷ ╤ ∷ []) (║ ∷ ╫ ∷ ╟ ∷ ╢ ∷ [])
+allowedOf Crossing d = toward d (═ ∷ ╪ ∷ []) (║ ∷ ╫ ∷ []) (═ ∷ ╪ ∷ []) (║ ∷ ╫ ∷ [])
 
 -- the kind of the frames that are drawn along lines
 abbrev pub kindOf : Lines → Kind

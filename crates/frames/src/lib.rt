@@ -13,12 +13,12 @@ ghost use mathlib.Core.Path.{_≡_};
 ghost use Prim.Native.Nat.{_+_, _<_, _^_};
 ghost use lib.ListN.{length};
 ghost use Rattle.lists.specs.Picture.{canvas};
-ghost use Rattle.walks.specs.Walk.{stepsIn};
+ghost use Rattle.walks.specs.Walk.{goOf, stepsIn};
 ghost use Rattle.walks.specs.Frame.{Place, closeOf, frameOf, framedIn};
 ghost use Rattle.walks.specs.Kinds.{thin, grid, name};
 ghost use Rattle.walks.specs.declared.Direction.the-variants.{Right, Down, Left, Up};
 ghost use Rattle.frames.specs.Cursor.{point, alongOf, placeOf, onward, placeAfter, Onward, MoveFits};
-ghost use Rattle.frames.specs.Characters.{kindOf};
+ghost use Rattle.frames.specs.Characters.{toward, kindOf};
 ghost use Rattle.frames.specs.Body.{bodyOf};
 ghost use Rattle.frames.specs.Answers.{allOf, closedOf};
 ghost use Rattle.frames.specs.declared.Lines.the-variants.{Region, Rectangle, Name, Body, Crossing};
@@ -46,17 +46,55 @@ struct Moved {
     walked: Walked,
 }
 
+// A walk to the characters of its direction, over those of its direction.
+fn go_toward(
+    d: Direction,
+    layer: &[u32],
+    w: usize,
+    h: usize,
+    x: usize,
+    y: usize,
+    right: &[u32],
+    down: &[u32],
+    left: &[u32],
+    up: &[u32],
+    over_right: &[u32],
+    over_down: &[u32],
+    over_left: &[u32],
+    over_up: &[u32],
+) -> Walked
+    requires { ⌜ Place w h x y (length (now layer)) ⌝ }
+    ensures { λ r. ⌜ stepsIn r ≡ goOf d (canvas w h (now (layer .entry))) w h x y (toward d (now (right .entry)) (now (down .entry)) (now (left .entry)) (now (up .entry))) (toward d (now («over_right» .entry)) (now («over_down» .entry)) (now («over_left» .entry)) (now («over_up» .entry))) ⌝ }
+{
+    match d {
+        Direction::Right => walks::go(d, layer, w, h, x, y, right, over_right),
+        Direction::Down => walks::go(d, layer, w, h, x, y, down, over_down),
+        Direction::Left => walks::go(d, layer, w, h, x, y, left, over_left),
+        Direction::Up => walks::go(d, layer, w, h, x, y, up, over_up),
+    }
+}
+
 // Along the frames of THIN.
 fn along_region(d: Direction, layer: &[u32], w: usize, h: usize, x: usize, y: usize) -> Walked
     requires { ⌜ Place w h x y (length (now layer)) ⌝ }
     ensures { λ r. ⌜ stepsIn r ≡ alongOf Region d (canvas w h (now (layer .entry))) w h x y ⌝ }
 {
-    match d {
-        Direction::Right => walks::go(d, layer, w, h, x, y, &CORNERS_TOP_RIGHT, &SIDES_TOP),
-        Direction::Down => walks::go(d, layer, w, h, x, y, &CORNERS_BOTTOM_RIGHT, &SIDES_RIGHT),
-        Direction::Left => walks::go(d, layer, w, h, x, y, &CORNERS_BOTTOM_LEFT, &SIDES_BOTTOM),
-        Direction::Up => walks::go(d, layer, w, h, x, y, &CORNERS_TOP_LEFT, &SIDES_LEFT),
-    }
+    go_toward(
+        d,
+        layer,
+        w,
+        h,
+        x,
+        y,
+        &CORNERS_TOP_RIGHT,
+        &CORNERS_BOTTOM_RIGHT,
+        &CORNERS_BOTTOM_LEFT,
+        &CORNERS_TOP_LEFT,
+        &SIDES_TOP,
+        &SIDES_RIGHT,
+        &SIDES_BOTTOM,
+        &SIDES_LEFT,
+    )
 }
 
 // Along the frames of GRID.
@@ -64,12 +102,22 @@ fn along_rectangle(d: Direction, layer: &[u32], w: usize, h: usize, x: usize, y:
     requires { ⌜ Place w h x y (length (now layer)) ⌝ }
     ensures { λ r. ⌜ stepsIn r ≡ alongOf Rectangle d (canvas w h (now (layer .entry))) w h x y ⌝ }
 {
-    match d {
-        Direction::Right => walks::go(d, layer, w, h, x, y, &GRID_TOP_RIGHT, &ROW_SIDE),
-        Direction::Down => walks::go(d, layer, w, h, x, y, &GRID_BOTTOM_RIGHT, &COLUMN_SIDE),
-        Direction::Left => walks::go(d, layer, w, h, x, y, &GRID_BOTTOM_LEFT, &ROW_SIDE),
-        Direction::Up => walks::go(d, layer, w, h, x, y, &GRID_TOP_LEFT, &COLUMN_SIDE),
-    }
+    go_toward(
+        d,
+        layer,
+        w,
+        h,
+        x,
+        y,
+        &GRID_TOP_RIGHT,
+        &GRID_BOTTOM_RIGHT,
+        &GRID_BOTTOM_LEFT,
+        &GRID_TOP_LEFT,
+        &ROW_SIDE,
+        &COLUMN_SIDE,
+        &ROW_SIDE,
+        &COLUMN_SIDE,
+    )
 }
 
 // Along the box of the name.
@@ -77,12 +125,22 @@ fn along_name(d: Direction, layer: &[u32], w: usize, h: usize, x: usize, y: usiz
     requires { ⌜ Place w h x y (length (now layer)) ⌝ }
     ensures { λ r. ⌜ stepsIn r ≡ alongOf Name d (canvas w h (now (layer .entry))) w h x y ⌝ }
 {
-    match d {
-        Direction::Right => walks::go(d, layer, w, h, x, y, &NAME_TOP_RIGHT, &ROW_SIDE),
-        Direction::Down => walks::go(d, layer, w, h, x, y, &NAME_BOTTOM_RIGHT, &COLUMN_SIDE),
-        Direction::Left => walks::go(d, layer, w, h, x, y, &NAME_BOTTOM_LEFT, &NAME_BOTTOM),
-        Direction::Up => walks::go(d, layer, w, h, x, y, &NAME_TOP_LEFT, &COLUMN_SIDE),
-    }
+    go_toward(
+        d,
+        layer,
+        w,
+        h,
+        x,
+        y,
+        &NAME_TOP_RIGHT,
+        &NAME_BOTTOM_RIGHT,
+        &NAME_BOTTOM_LEFT,
+        &NAME_TOP_LEFT,
+        &ROW_SIDE,
+        &COLUMN_SIDE,
+        &NAME_BOTTOM,
+        &COLUMN_SIDE,
+    )
 }
 
 // Along the double lines, to the sides of the body.
@@ -90,12 +148,22 @@ fn along_body(d: Direction, layer: &[u32], w: usize, h: usize, x: usize, y: usiz
     requires { ⌜ Place w h x y (length (now layer)) ⌝ }
     ensures { λ r. ⌜ stepsIn r ≡ alongOf Body d (canvas w h (now (layer .entry))) w h x y ⌝ }
 {
-    match d {
-        Direction::Right => walks::go(d, layer, w, h, x, y, &BODY_RIGHT, &TO_RIGHT),
-        Direction::Down => walks::go(d, layer, w, h, x, y, &BODY_BOTTOM, &TO_BOTTOM),
-        Direction::Left => walks::go(d, layer, w, h, x, y, &BODY_LEFT, &TO_LEFT),
-        Direction::Up => walks::go(d, layer, w, h, x, y, &BODY_TOP, &TO_TOP),
-    }
+    go_toward(
+        d,
+        layer,
+        w,
+        h,
+        x,
+        y,
+        &BODY_RIGHT,
+        &BODY_BOTTOM,
+        &BODY_LEFT,
+        &BODY_TOP,
+        &TO_RIGHT,
+        &TO_BOTTOM,
+        &TO_LEFT,
+        &TO_TOP,
+    )
 }
 
 // Along the double lines, to an annotation crossing.
@@ -103,12 +171,22 @@ fn along_crossing(d: Direction, layer: &[u32], w: usize, h: usize, x: usize, y: 
     requires { ⌜ Place w h x y (length (now layer)) ⌝ }
     ensures { λ r. ⌜ stepsIn r ≡ alongOf Crossing d (canvas w h (now (layer .entry))) w h x y ⌝ }
 {
-    match d {
-        Direction::Right => walks::go(d, layer, w, h, x, y, &CROSSING, &ACROSS),
-        Direction::Down => walks::go(d, layer, w, h, x, y, &CROSSING, &DOWN),
-        Direction::Left => walks::go(d, layer, w, h, x, y, &CROSSING, &ACROSS),
-        Direction::Up => walks::go(d, layer, w, h, x, y, &CROSSING, &DOWN),
-    }
+    go_toward(
+        d,
+        layer,
+        w,
+        h,
+        x,
+        y,
+        &CROSSING,
+        &CROSSING,
+        &CROSSING,
+        &CROSSING,
+        &ACROSS,
+        &DOWN,
+        &ACROSS,
+        &DOWN,
+    )
 }
 
 // Along lines of any kind.
