@@ -2,9 +2,7 @@
 --     lent-call        a step of a walk by hand: [the cursor's cell; the layer's token; what the layer owns; Γ], at a call of a walk of `Thin`
 --                      on the layer, its size, the cursor's address and the lines; the cursor comes back at the place that the walk says
 --     last-call        a step: a call of `closed` on numbers and on the answers of four walks
---     frame-meets      the MIR of `frame`, of `sides`, and of a function that makes one walk meet their contracts
---     sides-meets
---     single-meets
+--     frame-meets, sides-meets, single-meets       the MIR of `frame`, of `sides`, and of a function that makes one walk, meet their contracts
 use mathlib.Core.Path.{_≡_, refl, sym, ap, _∙_, subst}
 use mathlib.Core.List.{[], _∷_, List}
 use Prim.Native.Nat.{ℕ, _+_, _<_, _^_}
@@ -42,7 +40,7 @@ use denote.Triple.Statement.{Contract, Triple}
 use denote.Triple.Call.{calls-at}
 use denote.Triple.Entry.{onEntry}
 use denote.Triple.Spec.{Meets, tripleOf}
-use denote.Triple.Walked.{says, needs, Stays, stay-none, stay-none-slice, walkOf, AllGo, goes-none, goes-none-slice, Walks, ends-at, walked, walk-meets}
+use denote.Triple.Walked.{says, needs, Stays, stay-none, stay-none-slice, walkOf, AllGo, goes-none, goes-none-slice, ends-at, walked, walk-meets}
 use denote.Triple.Clauses.{Clauses, closing, ensured, lasts}
 use denote.Exit.{yes}
 use Rattle.lists.specs.Picture.{canvas}
@@ -247,6 +245,13 @@ pub record Keys : Type 0 where
   pub up : Name
   pub closes : Name
 
+pub record Known (ks : Keys) {M : Type 1} (𝓤 : URA M) (H : Heap 𝓤) (A : Atoms 𝓤) (C : Calls 𝓤 H) : Type 1 where
+  pub right : Triple 𝓤 (C (ks .right)) (Walker Right 𝓤 H A)
+  pub down : Triple 𝓤 (C (ks .down)) (Walker Down 𝓤 H A)
+  pub left : Triple 𝓤 (C (ks .left)) (Walker Left 𝓤 H A)
+  pub up : Triple 𝓤 (C (ks .up)) (Walker Up 𝓤 H A)
+  pub closes : Triple 𝓤 (C (ks .closes)) (Tail 𝓤 H A)
+
 -- the MIR: the locals that all have, and a call of the walk k on the cursor, whose address is in a local
 abbrev number : Local
 number = local (tyInt w64) valueLocal
@@ -270,20 +275,11 @@ frame-code ks = record {
   params = 6;
   locals = local F′.mir valueLocal ∷ given (answer ∷ answer ∷ number ∷ number ∷ answer ∷ answer ∷ address ∷ address ∷ address ∷ address ∷ number ∷ number ∷ []);
   body =
-      seq (assign (place 7 []) (aggregate (copy (place 4 []) ∷ copy (place 5 []) ∷ [])))
-      (seq (assign (place 14 []) (addrOf (place 7 [])))
-      (seq (walk-to (ks .right) 14 8)
-      (seq (assign (place 15 []) (addrOf (place 7 [])))
-      (seq (walk-to (ks .down) 15 9)
-      (seq (assign (place 10 []) (rvOpd (copy (place 7 (field 0 ∷ [])))))
-      (seq (assign (place 11 []) (rvOpd (copy (place 7 (field 1 ∷ [])))))
-      (seq (assign (place 16 []) (addrOf (place 7 [])))
-      (seq (walk-to (ks .left) 16 12)
-      (seq (assign (place 17 []) (addrOf (place 7 [])))
-      (seq (walk-to (ks .up) 17 13)
-      (seq (assign (place 18 []) (rvOpd (copy (place 7 (field 0 ∷ [])))))
-      (seq (assign (place 19 []) (rvOpd (copy (place 7 (field 1 ∷ [])))))
-      (seq (call (ks .closes) (copy (place 4 []) ∷ copy (place 5 []) ∷ copy (place 10 []) ∷ copy (place 11 []) ∷ copy (place 18 []) ∷ copy (place 19 []) ∷ copy (place 8 []) ∷ copy (place 9 []) ∷ copy (place 12 []) ∷ copy (place 13 []) ∷ []) (place 0 []))
+      seq (assign (place 7 []) (aggregate (copy (place 4 []) ∷ copy (place 5 []) ∷ []))) (seq (assign (place 14 []) (addrOf (place 7 []))) (seq (walk-to (ks .right) 14 8)
+      (seq (assign (place 15 []) (addrOf (place 7 []))) (seq (walk-to (ks .down) 15 9)
+      (seq (assign (place 10 []) (rvOpd (copy (place 7 (field 0 ∷ []))))) (seq (assign (place 11 []) (rvOpd (copy (place 7 (field 1 ∷ []))))) (seq (assign (place 16 []) (addrOf (place 7 []))) (seq (walk-to (ks .left) 16 12)
+      (seq (assign (place 17 []) (addrOf (place 7 []))) (seq (walk-to (ks .up) 17 13)
+      (seq (assign (place 18 []) (rvOpd (copy (place 7 (field 0 ∷ []))))) (seq (assign (place 19 []) (rvOpd (copy (place 7 (field 1 ∷ []))))) (seq (call (ks .closes) (copy (place 4 []) ∷ copy (place 5 []) ∷ copy (place 10 []) ∷ copy (place 11 []) ∷ copy (place 18 []) ∷ copy (place 19 []) ∷ copy (place 8 []) ∷ copy (place 9 []) ∷ copy (place 12 []) ∷ copy (place 13 []) ∷ []) (place 0 []))
       return)))))))))))));
 }
 
@@ -294,23 +290,11 @@ sides-code ks = record {
   params = 6;
   locals = local F′.mir valueLocal ∷ given (answer ∷ number ∷ answer ∷ number ∷ answer ∷ number ∷ answer ∷ address ∷ address ∷ address ∷ address ∷ number ∷ []);
   body =
-      seq (assign (place 7 []) (aggregate (copy (place 4 []) ∷ copy (place 5 []) ∷ [])))
-      (seq (assign (place 15 []) (addrOf (place 7 [])))
-      (seq (walk-to (ks .up) 15 8)
-      (seq (assign (place 9 []) (rvOpd (copy (place 7 (field 1 ∷ [])))))
-      (seq (assign (place 7 []) (aggregate (copy (place 4 []) ∷ copy (place 5 []) ∷ [])))
-      (seq (assign (place 16 []) (addrOf (place 7 [])))
-      (seq (walk-to (ks .down) 16 10)
-      (seq (assign (place 11 []) (rvOpd (copy (place 7 (field 1 ∷ [])))))
-      (seq (assign (place 7 []) (aggregate (copy (place 4 []) ∷ copy (place 5 []) ∷ [])))
-      (seq (assign (place 17 []) (addrOf (place 7 [])))
-      (seq (walk-to (ks .left) 17 12)
-      (seq (assign (place 13 []) (rvOpd (copy (place 7 (field 0 ∷ [])))))
-      (seq (assign (place 7 []) (aggregate (copy (place 4 []) ∷ copy (place 5 []) ∷ [])))
-      (seq (assign (place 18 []) (addrOf (place 7 [])))
-      (seq (walk-to (ks .right) 18 14)
-      (seq (assign (place 19 []) (rvOpd (copy (place 7 (field 0 ∷ [])))))
-      (seq (call (ks .closes) (copy (place 13 []) ∷ copy (place 9 []) ∷ copy (place 19 []) ∷ copy (place 11 []) ∷ copy (place 13 []) ∷ copy (place 9 []) ∷ copy (place 8 []) ∷ copy (place 10 []) ∷ copy (place 12 []) ∷ copy (place 14 []) ∷ []) (place 0 []))
+      seq (assign (place 7 []) (aggregate (copy (place 4 []) ∷ copy (place 5 []) ∷ []))) (seq (assign (place 15 []) (addrOf (place 7 []))) (seq (walk-to (ks .up) 15 8)
+      (seq (assign (place 9 []) (rvOpd (copy (place 7 (field 1 ∷ []))))) (seq (assign (place 7 []) (aggregate (copy (place 4 []) ∷ copy (place 5 []) ∷ []))) (seq (assign (place 16 []) (addrOf (place 7 []))) (seq (walk-to (ks .down) 16 10)
+      (seq (assign (place 11 []) (rvOpd (copy (place 7 (field 1 ∷ []))))) (seq (assign (place 7 []) (aggregate (copy (place 4 []) ∷ copy (place 5 []) ∷ []))) (seq (assign (place 17 []) (addrOf (place 7 []))) (seq (walk-to (ks .left) 17 12)
+      (seq (assign (place 13 []) (rvOpd (copy (place 7 (field 0 ∷ []))))) (seq (assign (place 7 []) (aggregate (copy (place 4 []) ∷ copy (place 5 []) ∷ []))) (seq (assign (place 18 []) (addrOf (place 7 []))) (seq (walk-to (ks .right) 18 14)
+      (seq (assign (place 19 []) (rvOpd (copy (place 7 (field 0 ∷ []))))) (seq (call (ks .closes) (copy (place 13 []) ∷ copy (place 9 []) ∷ copy (place 19 []) ∷ copy (place 11 []) ∷ copy (place 13 []) ∷ copy (place 9 []) ∷ copy (place 8 []) ∷ copy (place 10 []) ∷ copy (place 12 []) ∷ copy (place 14 []) ∷ []) (place 0 []))
       return))))))))))))))));
 }
 
@@ -327,7 +311,7 @@ frame-gives l w h x y lines = frameOf (kindOf lines) (canvas w h l) w h x y
 abbrev sides-gives : List ℕ → ℕ → ℕ → ℕ → ℕ → Lines → Reading Rect
 sides-gives l w h x y lines = bodyOf (canvas w h l) w h x y
 
-module _ (ks : Keys) {M : Type 1} (𝓤 : URA M) (H : Heap 𝓤) (A : Atoms 𝓤) (W : Given 𝓤 H A) (C : Calls 𝓤 H) (Λ : Loops 𝓤 H) (fm : FmC 𝓤 H (W .laws) C) (right-known : Triple 𝓤 (C (ks .right)) (Walker Right 𝓤 H A)) (down-known : Triple 𝓤 (C (ks .down)) (Walker Down 𝓤 H A)) (left-known : Triple 𝓤 (C (ks .left)) (Walker Left 𝓤 H A)) (up-known : Triple 𝓤 (C (ks .up)) (Walker Up 𝓤 H A)) (closed-known : Triple 𝓤 (C (ks .closes)) (Tail 𝓤 H A)) (κ : Lft) (q : Share) (s : Layer) (w h x y : ℕ) (lines : Lines) (is : Are w h x y lines) (room : Room u32 (length (s .now))) where
+module _ (ks : Keys) {M : Type 1} (𝓤 : URA M) (H : Heap 𝓤) (A : Atoms 𝓤) (W : Given 𝓤 H A) (C : Calls 𝓤 H) (Λ : Loops 𝓤 H) (fm : FmC 𝓤 H (W .laws) C) (known : Known ks 𝓤 H A C) (κ : Lft) (q : Share) (s : Layer) (w h x y : ℕ) (lines : Lines) (is : Are w h x y lines) (room : Room u32 (length (s .now))) where
   around-frame : frame-asks (s .now) w h x y lines → ent 𝓤 (onEntry 𝓤 H A chain.signature (κ, tt) (q, tt) (a s w h x y lines) (vals s w h x y lines)) (WpFn 𝓤 H C Λ (frame-code ks) (flat-vals s w h x y lines) (Ends frame-asks frame-gives 𝓤 H A W κ q s w h x y lines))
   around-frame within =
       qed W ((‵ (flft κ q) ⊛ ‵ ftrue) ∷ ‵ (owns (ShrSlice (named 0) κ u32 ∷ usize ∷ usize ∷ usize ∷ usize ∷ L.the-row ∷ []) (a s w h x y lines) (vals s w h x y lines)) ∷ []) ∵ enter ! C Λ (frame-code ks) (flat-vals s w h x y lines) _ $
@@ -338,22 +322,22 @@ module _ (ks : Keys) {M : Type 1} (𝓤 : URA M) (H : Heap 𝓤) (A : Atoms 𝓤
       assigns ! (agg ! (and-then ! (load ! (from ! (stop !)) (look ! 32 refl)) (and-then ! (load ! (from ! (stop !)) (look ! 30 refl)) (no-more !)))) (from ! (stop !)) (init ! 26 refl (LL.lawful P.the-type P′.the-laws 𝓤 H A W .typed (point x y) _ (at-is is) .0)) $ move ! (26 ∷ []) $
       -- [the cursor's cell; the token; the layer; _19 3; … ; _8 25; (_7's) 27; _6 28; … ; _0 40]
       assigns ! (addr ! (from ! (stop !))) (from ! (stop !)) (init ! 13 refl (tt, tt)) $
-      lent-call ! fm Right right-known κ q s w h lines (is .w) (is .h) (is .lines) (point x y) (at-is is) l₇ within (λ ν δ. (and-then ! (load ! (from ! (stop !)) (look ! 38 refl)) (and-then ! (load ! (from ! (stop !)) (look ! 36 refl)) (and-then ! (load ! (from ! (stop !)) (look ! 34 refl)) (and-then ! (load ! (from ! (stop !)) (look ! 13 refl)) (and-then ! (load ! (from ! (stop !)) (look ! 28 refl)) (no-more !))))))) (λ n₁ p₁ m₁ in₁ n₁-is p₁-is.
+      lent-call ! fm Right (known .right) κ q s w h lines (is .w) (is .h) (is .lines) (point x y) (at-is is) l₇ within (λ ν δ. (and-then ! (load ! (from ! (stop !)) (look ! 38 refl)) (and-then ! (load ! (from ! (stop !)) (look ! 36 refl)) (and-then ! (load ! (from ! (stop !)) (look ! 34 refl)) (and-then ! (load ! (from ! (stop !)) (look ! 13 refl)) (and-then ! (load ! (from ! (stop !)) (look ! 28 refl)) (no-more !))))))) (λ n₁ p₁ m₁ in₁ n₁-is p₁-is.
       land ! (from ! (stop !)) (init ! 25 refl (EL.lawful N.the-type N′.the-laws 𝓤 H A W tt .typed n₁ _ n₁-is .0)) $
       assigns ! (addr ! (from ! (stop !))) (from ! (stop !)) (init ! 11 refl (tt, tt)) $
-      lent-call ! fm Down down-known κ q s w h lines (is .w) (is .h) (is .lines) p₁ p₁-is l₇ in₁ (λ ν δ. (and-then ! (load ! (from ! (stop !)) (look ! 38 refl)) (and-then ! (load ! (from ! (stop !)) (look ! 36 refl)) (and-then ! (load ! (from ! (stop !)) (look ! 34 refl)) (and-then ! (load ! (from ! (stop !)) (look ! 11 refl)) (and-then ! (load ! (from ! (stop !)) (look ! 28 refl)) (no-more !))))))) (λ n₂ p₂ m₂ in₂ n₂-is p₂-is.
+      lent-call ! fm Down (known .down) κ q s w h lines (is .w) (is .h) (is .lines) p₁ p₁-is l₇ in₁ (λ ν δ. (and-then ! (load ! (from ! (stop !)) (look ! 38 refl)) (and-then ! (load ! (from ! (stop !)) (look ! 36 refl)) (and-then ! (load ! (from ! (stop !)) (look ! 34 refl)) (and-then ! (load ! (from ! (stop !)) (look ! 11 refl)) (and-then ! (load ! (from ! (stop !)) (look ! 28 refl)) (no-more !))))))) (λ n₂ p₂ m₂ in₂ n₂-is p₂-is.
       land ! (from ! (stop !)) (init ! 23 refl (EL.lawful N.the-type N′.the-laws 𝓤 H A W tt .typed n₂ _ n₂-is .0)) $
       assigns ! (of-opd ! (load ! (from ! (fld ! refl (stop !))) (look-in ! 0 (sub ! 0 refl (whole !))))) (from ! (stop !)) (init ! 21 refl (tt, record { fits = xf p₂ p₂-is })) $
       assigns ! (of-opd ! (load ! (from ! (fld ! refl (stop !))) (look-in ! 0 (sub ! 1 refl (whole !))))) (from ! (stop !)) (init ! 19 refl (tt, record { fits = yf p₂ p₂-is })) $
       assigns ! (addr ! (from ! (stop !))) (from ! (stop !)) (init ! 9 refl (tt, tt)) $
-      lent-call ! fm Left left-known κ q s w h lines (is .w) (is .h) (is .lines) p₂ p₂-is l₇ in₂ (λ ν δ. (and-then ! (load ! (from ! (stop !)) (look ! 38 refl)) (and-then ! (load ! (from ! (stop !)) (look ! 36 refl)) (and-then ! (load ! (from ! (stop !)) (look ! 34 refl)) (and-then ! (load ! (from ! (stop !)) (look ! 9 refl)) (and-then ! (load ! (from ! (stop !)) (look ! 28 refl)) (no-more !))))))) (λ n₃ p₃ m₃ in₃ n₃-is p₃-is.
+      lent-call ! fm Left (known .left) κ q s w h lines (is .w) (is .h) (is .lines) p₂ p₂-is l₇ in₂ (λ ν δ. (and-then ! (load ! (from ! (stop !)) (look ! 38 refl)) (and-then ! (load ! (from ! (stop !)) (look ! 36 refl)) (and-then ! (load ! (from ! (stop !)) (look ! 34 refl)) (and-then ! (load ! (from ! (stop !)) (look ! 9 refl)) (and-then ! (load ! (from ! (stop !)) (look ! 28 refl)) (no-more !))))))) (λ n₃ p₃ m₃ in₃ n₃-is p₃-is.
       land ! (from ! (stop !)) (init ! 17 refl (EL.lawful N.the-type N′.the-laws 𝓤 H A W tt .typed n₃ _ n₃-is .0)) $
       assigns ! (addr ! (from ! (stop !))) (from ! (stop !)) (init ! 7 refl (tt, tt)) $
-      lent-call ! fm Up up-known κ q s w h lines (is .w) (is .h) (is .lines) p₃ p₃-is l₇ in₃ (λ ν δ. (and-then ! (load ! (from ! (stop !)) (look ! 38 refl)) (and-then ! (load ! (from ! (stop !)) (look ! 36 refl)) (and-then ! (load ! (from ! (stop !)) (look ! 34 refl)) (and-then ! (load ! (from ! (stop !)) (look ! 7 refl)) (and-then ! (load ! (from ! (stop !)) (look ! 28 refl)) (no-more !))))))) (λ n₄ p₄ m₄ in₄ n₄-is p₄-is.
+      lent-call ! fm Up (known .up) κ q s w h lines (is .w) (is .h) (is .lines) p₃ p₃-is l₇ in₃ (λ ν δ. (and-then ! (load ! (from ! (stop !)) (look ! 38 refl)) (and-then ! (load ! (from ! (stop !)) (look ! 36 refl)) (and-then ! (load ! (from ! (stop !)) (look ! 34 refl)) (and-then ! (load ! (from ! (stop !)) (look ! 7 refl)) (and-then ! (load ! (from ! (stop !)) (look ! 28 refl)) (no-more !))))))) (λ n₄ p₄ m₄ in₄ n₄-is p₄-is.
       land ! (from ! (stop !)) (init ! 15 refl (EL.lawful N.the-type N′.the-laws 𝓤 H A W tt .typed n₄ _ n₄-is .0)) $
       assigns ! (of-opd ! (load ! (from ! (fld ! refl (stop !))) (look-in ! 0 (sub ! 0 refl (whole !))))) (from ! (stop !)) (init ! 5 refl (tt, record { fits = xf p₄ p₄-is })) $
       assigns ! (of-opd ! (load ! (from ! (fld ! refl (stop !))) (look-in ! 0 (sub ! 1 refl (whole !))))) (from ! (stop !)) (init ! 3 refl (tt, record { fits = yf p₄ p₄-is })) $
-      last-call ! fm closed-known x y (p₂ .x) (p₂ .y) (p₄ .x) (p₄ .y) n₁ n₂ n₃ n₄ (is .x) (is .y) (xf p₂ p₂-is) (yf p₂ p₂-is) (xf p₄ p₄-is) (yf p₄ p₄-is) n₁-is n₂-is n₃-is n₄-is (omega (arith, in₂ .column, is .w)) (omega (arith, in₂ .row, is .h)) (and-then ! (load ! (from ! (stop !)) (look ! 33 refl)) (and-then ! (load ! (from ! (stop !)) (look ! 31 refl)) (and-then ! (load ! (from ! (stop !)) (look ! 22 refl)) (and-then ! (load ! (from ! (stop !)) (look ! 20 refl)) (and-then ! (load ! (from ! (stop !)) (look ! 6 refl)) (and-then ! (load ! (from ! (stop !)) (look ! 4 refl)) (and-then ! (load ! (from ! (stop !)) (look ! 26 refl)) (and-then ! (load ! (from ! (stop !)) (look ! 24 refl)) (and-then ! (load ! (from ! (stop !)) (look ! 18 refl)) (and-then ! (load ! (from ! (stop !)) (look ! 16 refl)) (no-more !))))))))))) (λ r u e u-is.
+      last-call ! fm (known .closes) x y (p₂ .x) (p₂ .y) (p₄ .x) (p₄ .y) n₁ n₂ n₃ n₄ (is .x) (is .y) (xf p₂ p₂-is) (yf p₂ p₂-is) (xf p₄ p₄-is) (yf p₄ p₄-is) n₁-is n₂-is n₃-is n₄-is (omega (arith, in₂ .column, is .w)) (omega (arith, in₂ .row, is .h)) (and-then ! (load ! (from ! (stop !)) (look ! 33 refl)) (and-then ! (load ! (from ! (stop !)) (look ! 31 refl)) (and-then ! (load ! (from ! (stop !)) (look ! 22 refl)) (and-then ! (load ! (from ! (stop !)) (look ! 20 refl)) (and-then ! (load ! (from ! (stop !)) (look ! 6 refl)) (and-then ! (load ! (from ! (stop !)) (look ! 4 refl)) (and-then ! (load ! (from ! (stop !)) (look ! 26 refl)) (and-then ! (load ! (from ! (stop !)) (look ! 24 refl)) (and-then ! (load ! (from ! (stop !)) (look ! 18 refl)) (and-then ! (load ! (from ! (stop !)) (look ! 16 refl)) (no-more !))))))))))) (λ r u e u-is.
       land ! (from ! (stop !)) (init ! 40 refl (EL.lawful F.the-type F′.the-laws 𝓤 H A W tt .typed r _ u-is .0)) $
       returns ! (look ! 40 refl) $ forget ! 0 refl $ forget ! 3 refl $ forget ! 5 refl $ forget ! 7 refl $ forget ! 9 refl $ forget ! 11 refl $ forget ! 13 refl $ forget ! 15 refl $ forget ! 17 refl $ forget ! 19 refl $ forget ! 21 refl $ forget ! 23 refl $ forget ! 25 refl $ forget ! 28 refl $ forget ! 30 refl $ forget ! 32 refl $ forget ! 34 refl $ forget ! 36 refl $ forget ! 38 refl $ forget ! 40 refl $
       move ! (40 ∷ 41 ∷ []) $ free1 ! $ move ! (38 ∷ 39 ∷ []) $ free1 ! $ move ! (36 ∷ 37 ∷ []) $ free1 ! $ move ! (34 ∷ 35 ∷ []) $ free1 ! $ move ! (32 ∷ 33 ∷ []) $ free1 ! $ move ! (30 ∷ 31 ∷ []) $ free1 ! $ move ! (28 ∷ 29 ∷ []) $ free1 ! $ move ! (0 ∷ 27 ∷ []) $ free1 ! $ move ! (24 ∷ 25 ∷ []) $ free1 ! $ move ! (22 ∷ 23 ∷ []) $ free1 ! $ move ! (20 ∷ 21 ∷ []) $ free1 ! $ move ! (18 ∷ 19 ∷ []) $ free1 ! $ move ! (16 ∷ 17 ∷ []) $ free1 ! $ move ! (14 ∷ 15 ∷ []) $ free1 ! $ move ! (12 ∷ 13 ∷ []) $ free1 ! $ move ! (10 ∷ 11 ∷ []) $ free1 ! $ move ! (8 ∷ 9 ∷ []) $ free1 ! $ move ! (6 ∷ 7 ∷ []) $ free1 ! $ move ! (4 ∷ 5 ∷ []) $ free1 ! $ move ! (2 ∷ 3 ∷ []) $ free1 ! $ free0 ! $
@@ -369,36 +353,29 @@ module _ (ks : Keys) {M : Type 1} (𝓤 : URA M) (H : Heap 𝓤) (A : Atoms 𝓤
       assigns ! (agg ! (and-then ! (load ! (from ! (stop !)) (look ! 32 refl)) (and-then ! (load ! (from ! (stop !)) (look ! 30 refl)) (no-more !)))) (from ! (stop !)) (init ! 26 refl (LL.lawful P.the-type P′.the-laws 𝓤 H A W .typed (point x y) _ (at-is is) .0)) $ move ! (26 ∷ []) $
       -- [the cursor's cell; the token; the layer; _19 3; … ; _8 25; (_7's) 27; _6 28; … ; _0 40]
       assigns ! (addr ! (from ! (stop !))) (from ! (stop !)) (init ! 11 refl (tt, tt)) $
-      lent-call ! fm Up up-known κ q s w h lines (is .w) (is .h) (is .lines) (point x y) (at-is is) l₇ (within .0) (λ ν δ. (and-then ! (load ! (from ! (stop !)) (look ! 38 refl)) (and-then ! (load ! (from ! (stop !)) (look ! 36 refl)) (and-then ! (load ! (from ! (stop !)) (look ! 34 refl)) (and-then ! (load ! (from ! (stop !)) (look ! 11 refl)) (and-then ! (load ! (from ! (stop !)) (look ! 28 refl)) (no-more !))))))) (λ n₁ p₁ m₁ in₁ n₁-is p₁-is.
+      lent-call ! fm Up (known .up) κ q s w h lines (is .w) (is .h) (is .lines) (point x y) (at-is is) l₇ (within .0) (λ ν δ. (and-then ! (load ! (from ! (stop !)) (look ! 38 refl)) (and-then ! (load ! (from ! (stop !)) (look ! 36 refl)) (and-then ! (load ! (from ! (stop !)) (look ! 34 refl)) (and-then ! (load ! (from ! (stop !)) (look ! 11 refl)) (and-then ! (load ! (from ! (stop !)) (look ! 28 refl)) (no-more !))))))) (λ n₁ p₁ m₁ in₁ n₁-is p₁-is.
       land ! (from ! (stop !)) (init ! 25 refl (EL.lawful N.the-type N′.the-laws 𝓤 H A W tt .typed n₁ _ n₁-is .0)) $
       assigns ! (of-opd ! (load ! (from ! (fld ! refl (stop !))) (look-in ! 0 (sub ! 1 refl (whole !))))) (from ! (stop !)) (init ! 23 refl (tt, record { fits = yf p₁ p₁-is })) $
       assigns ! (agg ! (and-then ! (load ! (from ! (stop !)) (look ! 32 refl)) (and-then ! (load ! (from ! (stop !)) (look ! 30 refl)) (no-more !)))) (from ! (stop !)) (store ! 0 refl (LL.lawful P.the-type P′.the-laws 𝓤 H A W .typed (point x y) _ (at-is is) .0)) $
       assigns ! (addr ! (from ! (stop !))) (from ! (stop !)) (init ! 9 refl (tt, tt)) $
-      lent-call ! fm Down down-known κ q s w h lines (is .w) (is .h) (is .lines) (point x y) (at-is is) l₇ (within .0) (λ ν δ. (and-then ! (load ! (from ! (stop !)) (look ! 38 refl)) (and-then ! (load ! (from ! (stop !)) (look ! 36 refl)) (and-then ! (load ! (from ! (stop !)) (look ! 34 refl)) (and-then ! (load ! (from ! (stop !)) (look ! 9 refl)) (and-then ! (load ! (from ! (stop !)) (look ! 28 refl)) (no-more !))))))) (λ n₂ p₂ m₂ in₂ n₂-is p₂-is.
+      lent-call ! fm Down (known .down) κ q s w h lines (is .w) (is .h) (is .lines) (point x y) (at-is is) l₇ (within .0) (λ ν δ. (and-then ! (load ! (from ! (stop !)) (look ! 38 refl)) (and-then ! (load ! (from ! (stop !)) (look ! 36 refl)) (and-then ! (load ! (from ! (stop !)) (look ! 34 refl)) (and-then ! (load ! (from ! (stop !)) (look ! 9 refl)) (and-then ! (load ! (from ! (stop !)) (look ! 28 refl)) (no-more !))))))) (λ n₂ p₂ m₂ in₂ n₂-is p₂-is.
       land ! (from ! (stop !)) (init ! 21 refl (EL.lawful N.the-type N′.the-laws 𝓤 H A W tt .typed n₂ _ n₂-is .0)) $
       assigns ! (of-opd ! (load ! (from ! (fld ! refl (stop !))) (look-in ! 0 (sub ! 1 refl (whole !))))) (from ! (stop !)) (init ! 19 refl (tt, record { fits = yf p₂ p₂-is })) $
       assigns ! (agg ! (and-then ! (load ! (from ! (stop !)) (look ! 32 refl)) (and-then ! (load ! (from ! (stop !)) (look ! 30 refl)) (no-more !)))) (from ! (stop !)) (store ! 0 refl (LL.lawful P.the-type P′.the-laws 𝓤 H A W .typed (point x y) _ (at-is is) .0)) $
       assigns ! (addr ! (from ! (stop !))) (from ! (stop !)) (init ! 7 refl (tt, tt)) $
-      lent-call ! fm Left left-known κ q s w h lines (is .w) (is .h) (is .lines) (point x y) (at-is is) l₇ (within .0) (λ ν δ. (and-then ! (load ! (from ! (stop !)) (look ! 38 refl)) (and-then ! (load ! (from ! (stop !)) (look ! 36 refl)) (and-then ! (load ! (from ! (stop !)) (look ! 34 refl)) (and-then ! (load ! (from ! (stop !)) (look ! 7 refl)) (and-then ! (load ! (from ! (stop !)) (look ! 28 refl)) (no-more !))))))) (λ n₃ p₃ m₃ in₃ n₃-is p₃-is.
+      lent-call ! fm Left (known .left) κ q s w h lines (is .w) (is .h) (is .lines) (point x y) (at-is is) l₇ (within .0) (λ ν δ. (and-then ! (load ! (from ! (stop !)) (look ! 38 refl)) (and-then ! (load ! (from ! (stop !)) (look ! 36 refl)) (and-then ! (load ! (from ! (stop !)) (look ! 34 refl)) (and-then ! (load ! (from ! (stop !)) (look ! 7 refl)) (and-then ! (load ! (from ! (stop !)) (look ! 28 refl)) (no-more !))))))) (λ n₃ p₃ m₃ in₃ n₃-is p₃-is.
       land ! (from ! (stop !)) (init ! 17 refl (EL.lawful N.the-type N′.the-laws 𝓤 H A W tt .typed n₃ _ n₃-is .0)) $
       assigns ! (of-opd ! (load ! (from ! (fld ! refl (stop !))) (look-in ! 0 (sub ! 0 refl (whole !))))) (from ! (stop !)) (init ! 15 refl (tt, record { fits = xf p₃ p₃-is })) $
       assigns ! (agg ! (and-then ! (load ! (from ! (stop !)) (look ! 32 refl)) (and-then ! (load ! (from ! (stop !)) (look ! 30 refl)) (no-more !)))) (from ! (stop !)) (store ! 0 refl (LL.lawful P.the-type P′.the-laws 𝓤 H A W .typed (point x y) _ (at-is is) .0)) $
       assigns ! (addr ! (from ! (stop !))) (from ! (stop !)) (init ! 5 refl (tt, tt)) $
-      lent-call ! fm Right right-known κ q s w h lines (is .w) (is .h) (is .lines) (point x y) (at-is is) l₇ (within .0) (λ ν δ. (and-then ! (load ! (from ! (stop !)) (look ! 38 refl)) (and-then ! (load ! (from ! (stop !)) (look ! 36 refl)) (and-then ! (load ! (from ! (stop !)) (look ! 34 refl)) (and-then ! (load ! (from ! (stop !)) (look ! 5 refl)) (and-then ! (load ! (from ! (stop !)) (look ! 28 refl)) (no-more !))))))) (λ n₄ p₄ m₄ in₄ n₄-is p₄-is.
+      lent-call ! fm Right (known .right) κ q s w h lines (is .w) (is .h) (is .lines) (point x y) (at-is is) l₇ (within .0) (λ ν δ. (and-then ! (load ! (from ! (stop !)) (look ! 38 refl)) (and-then ! (load ! (from ! (stop !)) (look ! 36 refl)) (and-then ! (load ! (from ! (stop !)) (look ! 34 refl)) (and-then ! (load ! (from ! (stop !)) (look ! 5 refl)) (and-then ! (load ! (from ! (stop !)) (look ! 28 refl)) (no-more !))))))) (λ n₄ p₄ m₄ in₄ n₄-is p₄-is.
       land ! (from ! (stop !)) (init ! 13 refl (EL.lawful N.the-type N′.the-laws 𝓤 H A W tt .typed n₄ _ n₄-is .0)) $
       assigns ! (of-opd ! (load ! (from ! (fld ! refl (stop !))) (look-in ! 0 (sub ! 0 refl (whole !))))) (from ! (stop !)) (init ! 3 refl (tt, record { fits = xf p₄ p₄-is })) $
-      last-call ! fm closed-known (p₃ .x) (p₁ .y) (p₄ .x) (p₂ .y) (p₃ .x) (p₁ .y) n₁ n₂ n₃ n₄ (xf p₃ p₃-is) (yf p₁ p₁-is) (xf p₄ p₄-is) (yf p₂ p₂-is) (xf p₃ p₃-is) (yf p₁ p₁-is) n₁-is n₂-is n₃-is n₄-is (omega (arith, in₄ .column, is .w)) (omega (arith, in₂ .row, is .h)) (and-then ! (load ! (from ! (stop !)) (look ! 16 refl)) (and-then ! (load ! (from ! (stop !)) (look ! 24 refl)) (and-then ! (load ! (from ! (stop !)) (look ! 4 refl)) (and-then ! (load ! (from ! (stop !)) (look ! 20 refl)) (and-then ! (load ! (from ! (stop !)) (look ! 16 refl)) (and-then ! (load ! (from ! (stop !)) (look ! 24 refl)) (and-then ! (load ! (from ! (stop !)) (look ! 26 refl)) (and-then ! (load ! (from ! (stop !)) (look ! 22 refl)) (and-then ! (load ! (from ! (stop !)) (look ! 18 refl)) (and-then ! (load ! (from ! (stop !)) (look ! 14 refl)) (no-more !))))))))))) (λ r u e u-is.
+      last-call ! fm (known .closes) (p₃ .x) (p₁ .y) (p₄ .x) (p₂ .y) (p₃ .x) (p₁ .y) n₁ n₂ n₃ n₄ (xf p₃ p₃-is) (yf p₁ p₁-is) (xf p₄ p₄-is) (yf p₂ p₂-is) (xf p₃ p₃-is) (yf p₁ p₁-is) n₁-is n₂-is n₃-is n₄-is (omega (arith, in₄ .column, is .w)) (omega (arith, in₂ .row, is .h)) (and-then ! (load ! (from ! (stop !)) (look ! 16 refl)) (and-then ! (load ! (from ! (stop !)) (look ! 24 refl)) (and-then ! (load ! (from ! (stop !)) (look ! 4 refl)) (and-then ! (load ! (from ! (stop !)) (look ! 20 refl)) (and-then ! (load ! (from ! (stop !)) (look ! 16 refl)) (and-then ! (load ! (from ! (stop !)) (look ! 24 refl)) (and-then ! (load ! (from ! (stop !)) (look ! 26 refl)) (and-then ! (load ! (from ! (stop !)) (look ! 22 refl)) (and-then ! (load ! (from ! (stop !)) (look ! 18 refl)) (and-then ! (load ! (from ! (stop !)) (look ! 14 refl)) (no-more !))))))))))) (λ r u e u-is.
       land ! (from ! (stop !)) (init ! 40 refl (EL.lawful F.the-type F′.the-laws 𝓤 H A W tt .typed r _ u-is .0)) $
       returns ! (look ! 40 refl) $ forget ! 0 refl $ forget ! 3 refl $ forget ! 5 refl $ forget ! 7 refl $ forget ! 9 refl $ forget ! 11 refl $ forget ! 13 refl $ forget ! 15 refl $ forget ! 17 refl $ forget ! 19 refl $ forget ! 21 refl $ forget ! 23 refl $ forget ! 25 refl $ forget ! 28 refl $ forget ! 30 refl $ forget ! 32 refl $ forget ! 34 refl $ forget ! 36 refl $ forget ! 38 refl $ forget ! 40 refl $
       move ! (40 ∷ 41 ∷ []) $ free1 ! $ move ! (38 ∷ 39 ∷ []) $ free1 ! $ move ! (36 ∷ 37 ∷ []) $ free1 ! $ move ! (34 ∷ 35 ∷ []) $ free1 ! $ move ! (32 ∷ 33 ∷ []) $ free1 ! $ move ! (30 ∷ 31 ∷ []) $ free1 ! $ move ! (28 ∷ 29 ∷ []) $ free1 ! $ move ! (0 ∷ 27 ∷ []) $ free1 ! $ move ! (24 ∷ 25 ∷ []) $ free1 ! $ move ! (22 ∷ 23 ∷ []) $ free1 ! $ move ! (20 ∷ 21 ∷ []) $ free1 ! $ move ! (18 ∷ 19 ∷ []) $ free1 ! $ move ! (16 ∷ 17 ∷ []) $ free1 ! $ move ! (14 ∷ 15 ∷ []) $ free1 ! $ move ! (12 ∷ 13 ∷ []) $ free1 ! $ move ! (10 ∷ 11 ∷ []) $ free1 ! $ move ! (8 ∷ 9 ∷ []) $ free1 ! $ move ! (6 ∷ 7 ∷ []) $ free1 ! $ move ! (4 ∷ 5 ∷ []) $ free1 ! $ move ! (2 ∷ 3 ∷ []) $ free1 ! $ free0 ! $
       by ! (exits sides-asks sides-gives 𝓤 H A W κ q s w h x y lines is r u (e ∙ sides-found lines (canvas w h (s .now)) w h x y (within .1) n₁ n₂ n₃ n₄ p₁ p₂ p₃ p₄ m₁ m₂ m₃ m₄) u-is))))))))))))))))))))))))))
-
-pub record Known (ks : Keys) {M : Type 1} (𝓤 : URA M) (H : Heap 𝓤) (A : Atoms 𝓤) (C : Calls 𝓤 H) : Type 1 where
-  pub right : Triple 𝓤 (C (ks .right)) (Walker Right 𝓤 H A)
-  pub down : Triple 𝓤 (C (ks .down)) (Walker Down 𝓤 H A)
-  pub left : Triple 𝓤 (C (ks .left)) (Walker Left 𝓤 H A)
-  pub up : Triple 𝓤 (C (ks .up)) (Walker Up 𝓤 H A)
-  pub closes : Triple 𝓤 (C (ks .closes)) (Tail 𝓤 H A)
 
 four-meets : (R : List ℕ → ℕ → ℕ → ℕ → ℕ → Lines → Type 0) (G : List ℕ → ℕ → ℕ → ℕ → ℕ → Lines → Reading Rect) (f : Fn) {M : Type 1} (𝓤 : URA M) (H : Heap 𝓤) (A : Atoms 𝓤) (W : Given 𝓤 H A) (𝓣 : Tables 𝓤 H)
     → ((κ : Lft) (q : Share) (s : Layer) (w h x y : ℕ) (lines : Lines) → Are w h x y lines → Room u32 (length (s .now)) → R (s .now) w h x y lines
@@ -414,11 +391,11 @@ four-meets R G f 𝓤 H A W 𝓣 walk =
 
 pub frame-meets : (ks : Keys) {M : Type 1} (𝓤 : URA M) (H : Heap 𝓤) (A : Atoms 𝓤) (W : Given 𝓤 H A) (𝓣 : Tables 𝓤 H) → Known ks 𝓤 H A (𝓣 .C) → Meets 𝓤 H A chain.signature (WpFn 𝓤 H (𝓣 .C) (𝓣 .Λ) (frame-code ks)) (closing 𝓤 H A chain.ended (four frame-asks frame-gives 𝓤))
 frame-meets ks 𝓤 H A W 𝓣 known =
-    four-meets frame-asks frame-gives (frame-code ks) 𝓤 H A W 𝓣 (around-frame ks 𝓤 H A W (𝓣 .C) (𝓣 .Λ) (fmOf 𝓤 H (W .laws) 𝓣) (known .right) (known .down) (known .left) (known .up) (known .closes))
+    four-meets frame-asks frame-gives (frame-code ks) 𝓤 H A W 𝓣 (around-frame ks 𝓤 H A W (𝓣 .C) (𝓣 .Λ) (fmOf 𝓤 H (W .laws) 𝓣) known)
 
 pub sides-meets : (ks : Keys) {M : Type 1} (𝓤 : URA M) (H : Heap 𝓤) (A : Atoms 𝓤) (W : Given 𝓤 H A) (𝓣 : Tables 𝓤 H) → Known ks 𝓤 H A (𝓣 .C) → Meets 𝓤 H A chain.signature (WpFn 𝓤 H (𝓣 .C) (𝓣 .Λ) (sides-code ks)) (closing 𝓤 H A chain.ended (four sides-asks sides-gives 𝓤))
 sides-meets ks 𝓤 H A W 𝓣 known =
-    four-meets sides-asks sides-gives (sides-code ks) 𝓤 H A W 𝓣 (to-sides ks 𝓤 H A W (𝓣 .C) (𝓣 .Λ) (fmOf 𝓤 H (W .laws) 𝓣) (known .right) (known .down) (known .left) (known .up) (known .closes))
+    four-meets sides-asks sides-gives (sides-code ks) 𝓤 H A W 𝓣 (to-sides ks 𝓤 H A W (𝓣 .C) (𝓣 .Λ) (fmOf 𝓤 H (W .laws) 𝓣) known)
 
 -- ---- one walk k, in the direction d
 abbrev single : Direction → {M : Type 1} (𝓤 : URA M) → Clauses 𝓤 one.ended

@@ -3,30 +3,13 @@ use borrow.Author.Needs.{needs}
 use Rattle.frames.proofs.go_toward.Statement.{statement}
 use Rattle.frames.proofs.go_toward.Tie as tie
 
-returns : tie.Need-returns
-returns c =
-    let e = c .before .enum-told .given .1 in
-    rw e (rw e at (c .go .ensures))
-
-returns-2 : tie.Need-returns-2
-returns-2 c =
-    let e = c .before .enum-told2 .given .1 in
-    rw e (rw e at (c .go2 .ensures))
-
-returns-3 : tie.Need-returns-3
-returns-3 c =
-    let e = c .before .enum-told3 .given .1 in
-    rw e (rw e at (c .go3 .ensures))
-
-returns-4 : tie.Need-returns-4
-returns-4 c =
-    let e = c .before .enum-told4 .given .1 in
-    rw e (rw e at (c .go4 .ensures))
-
 pub go-toward-spec : {M : Type 1} → statement M
 go-toward-spec =
     tie.close
     (tie.spec
     (λ c. search needs) (λ c κs. search needs) (λ c. search needs) (λ c κs. search needs)
     (λ c. search needs) (λ c κs. search needs) (λ c. search needs) (λ c κs. search needs)
-    returns returns-2 returns-3 returns-4)
+    (λ c. let e = c .before .enum-told .given .1 in rw e (rw e at (c .go .ensures)))
+    (λ c. let e = c .before .enum-told2 .given .1 in rw e (rw e at (c .go2 .ensures)))
+    (λ c. let e = c .before .enum-told3 .given .1 in rw e (rw e at (c .go3 .ensures)))
+    (λ c. let e = c .before .enum-told4 .given .1 in rw e (rw e at (c .go4 .ensures))))
