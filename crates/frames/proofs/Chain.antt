@@ -45,7 +45,10 @@ use denote.Triple.Clauses.{Clauses, closing, ensured, lasts}
 use denote.Exit.{yes}
 use Rattle.lists.specs.Picture.{canvas}
 use Rattle.model.specs.Refusals.{Reading}
+use Rattle.model.specs.declared.Point.{Point}
 use Rattle.model.specs.declared.Rect.{Rect}
+use Rattle.model.proofs.Point as P
+use Rattle.model.proofs.Point.Laws as P′
 use Rattle.walks.specs.Frame.{Place, frameOf, framedIn}
 use Rattle.walks.specs.Walk.{stepsIn}
 use Rattle.walks.specs.declared.Direction.{Direction}
@@ -62,11 +65,8 @@ use Rattle.frames.specs.Characters.{kindOf}
 use Rattle.frames.specs.Cursor.{point}
 use Rattle.frames.specs.declared.Lines.{Lines}
 use Rattle.frames.specs.declared.Lines.the-variants as kinds
-use Rattle.frames.specs.declared.Point.{Point}
 use Rattle.frames.proofs.Lines as L
 use Rattle.frames.proofs.Lines.Laws as L′
-use Rattle.frames.proofs.Point as P
-use Rattle.frames.proofs.Point.Laws as P′
 use Rattle.frames.proofs.CursorLaws.{Moves, stays, around, sides-found}
 use Rattle.frames.proofs.Thin.{Layer, layer-val, layer-own, mach, told, lined, Found, thin}
 use Rattle.frames.proofs.closed as closed

@@ -5,6 +5,7 @@ use native.Mathlib.Omega.{arith}
 use Rattle.lists.specs.Answer.{ok, refused, _>>=_, _>>_}
 use Rattle.lists.specs.Picture.{Picture}
 use Rattle.model.specs.Refusals.{Reading}
+use Rattle.model.specs.declared.Point.{Point}
 use Rattle.model.specs.declared.Rect.{Rect}
 use Rattle.model.specs.declared.Refusal.{Refusal}
 use Rattle.walks.specs.Frame.{Place, rectOf, closeOf, frameOf}
@@ -23,7 +24,6 @@ use Rattle.frames.specs.Cursor.{alongOf, point, placeOf, placeAfter, Mov
 use Rattle.frames.specs.declared.Lines.{Lines}
 use Rattle.frames.specs.declared.Lines.the-variants.{Region, Rectangle, Name, Body}
 use Rattle.frames.specs.declared.Moved.{Moved}
-use Rattle.frames.specs.declared.Point.{Point}
 
 -- a walk keeps to the picture
 pub kept : (lines : Lines) (d : Direction) (p : Picture) (w h len : ℕ) (at : Point) → Place w h (at .x) (at .y) len → (m : Reading ℕ) → alongOf lines d p w h (at .x) (at .y) ≡ m → Place w h (placeAfter d at m .x) (placeAfter d at m .y) len

@@ -41,6 +41,9 @@ use denote.Triple.Clauses.{Clauses, closing, ensured, lasts}
 use denote.Exit.{yes}
 use Rattle.lists.specs.Picture.{canvas}
 use Rattle.model.specs.Refusals.{Reading}
+use Rattle.model.specs.declared.Point.{Point}
+use Rattle.model.proofs.Point as P
+use Rattle.model.proofs.Point.Laws as P′
 use Rattle.walks.specs.Frame.{Place}
 use Rattle.walks.specs.Walk.{stepsIn}
 use Rattle.walks.specs.declared.Direction.{Direction}
@@ -50,13 +53,10 @@ use Rattle.walks.proofs.Walked.Laws as N′
 use Rattle.frames.specs.Cursor.{alongOf, point, placeOf, placeAfter}
 use Rattle.frames.specs.declared.Lines.{Lines}
 use Rattle.frames.specs.declared.Moved.{Moved}
-use Rattle.frames.specs.declared.Point.{Point}
 use Rattle.frames.proofs.Lines as L
 use Rattle.frames.proofs.Lines.Laws as L′
 use Rattle.frames.proofs.Moved as Mv
 use Rattle.frames.proofs.Moved.Laws as Mv′
-use Rattle.frames.proofs.Point as P
-use Rattle.frames.proofs.Point.Laws as P′
 use Rattle.frames.proofs.right_at as right-at
 use Rattle.frames.proofs.search_right as right
 

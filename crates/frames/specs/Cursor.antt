@@ -3,13 +3,13 @@ use Prim.Native.Nat.{ℕ, _+_, _-_, _≤_, _<_, _^_}
 use Rattle.lists.specs.Answer.{ok, refused}
 use Rattle.lists.specs.Picture.{Picture}
 use Rattle.model.specs.Refusals.{Reading}
+use Rattle.model.specs.declared.Point.{Point}
 use Rattle.walks.specs.Walk.{goOf}
 use Rattle.walks.specs.declared.Direction.{Direction}
 use Rattle.walks.specs.declared.Direction.the-variants.{Right, Down, Left, Up}
 use Rattle.frames.specs.Characters.{searchedOf, allowedOf}
 use Rattle.frames.specs.declared.Lines.{Lines}
 use Rattle.frames.specs.declared.Moved.{Moved}
-use Rattle.frames.specs.declared.Point.{Point}
 
 -- the walk along lines from column x of row y, in a picture of w columns and h rows
 abbrev pub alongOf : Lines → Direction → Picture → ℕ → ℕ → ℕ → ℕ → Reading ℕ

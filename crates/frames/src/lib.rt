@@ -4,6 +4,7 @@ pub mod double_lines;
 
 use corners::*;
 use double_lines::*;
+use model::Point;
 use model::Rect;
 use model::Refusal;
 use walks::Direction;
@@ -22,12 +23,6 @@ ghost use Rattle.frames.specs.Characters.{toward, kindOf};
 ghost use Rattle.frames.specs.Body.{bodyOf};
 ghost use Rattle.frames.specs.Answers.{allOf, closedOf};
 ghost use Rattle.frames.specs.declared.Lines.the-variants.{Region, Rectangle, Name, Body, Crossing};
-
-// A column and a row.
-pub struct Point {
-    pub x: usize,
-    pub y: usize,
-}
 
 // What is walked along: the frames of THIN, those of GRID, the box of the name, the double lines to the sides of the
 // body, and those to an annotation crossing.
