@@ -32,7 +32,8 @@ use Rattle.scan.specs.Canvas.{sizeOf}
 use Rattle.scan.specs.Rows.{upTo, collect, widest, flat}
 use Rattle.walks.specs.Frame.{frameOf}
 use Rattle.walks.specs.Walk.{walkFrom}
-use Rattle.outline.specs.Outline.{searchFrom, namedBy, bodyOf, tableOf, outlineBy}
+use Rattle.frames.specs.Body.{bodyOf}
+use Rattle.outline.specs.Outline.{searchFrom, namedBy, tableOf, outlineBy}
 use Rattle.layers.specs.Body.{topOf, bodyCode, shadedCode}
 use Rattle.layers.specs.Grid.{carriedCode}
 use Rattle.layers.specs.Passes.{lineCarried}

@@ -20,7 +20,8 @@ use Rattle.model.specs.declared.Refusal.{Refusal}
 use Rattle.cells.specs.Held.{Held}
 use Rattle.cells.specs.Plane.{TextPlane, planeIn}
 use Rattle.cells.specs.Spans.{offsetAt, lengthAt, textAt, textsIn}
-use Rattle.outline.specs.Outline.{searchOf, namedBy, namedOf, tableOf, outlineBy, outlineOf, bodyOf}
+use Rattle.frames.specs.Body.{bodyOf}
+use Rattle.outline.specs.Outline.{searchOf, namedBy, namedOf, tableOf, outlineBy, outlineOf}
 use Rattle.outline.specs.declared.Outline.{Outline}
 use Rattle.regions.specs.Rects.{Layer}
 use Rattle.scan.specs.Canvas.{rowsAt, fits, sizeOf}

@@ -99,7 +99,7 @@ fn seek(layer: &[u32], w: usize, h: usize, i: usize) -> Sought
             frame: nowhere,
         };
     }
-    match walks::recognize_rectangle(layer, w, h, at % w, at / w) {
+    match frames::recognize_rectangle(layer, w, h, at % w, at / w) {
         Framed::Closed(f) => Sought {
             at,
             framed: true,

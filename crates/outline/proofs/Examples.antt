@@ -8,7 +8,8 @@ use Rattle.lists.specs.OneOf.{oneOf}
 use Rattle.lists.specs.Picture.{canvas, within}
 use Rattle.model.specs.Box.{┌, ┐, └, ┘, ─, ═, ╞, ╡, ╥, ╨, ╬}
 use Rattle.walks.specs.Walk.{walkFrom}
-use Rattle.outline.specs.Outline.{searchFrom, namedBy, bodyOf, tableOf, outlineBy, outlineOf}
+use Rattle.frames.specs.Body.{bodyOf}
+use Rattle.outline.specs.Outline.{searchFrom, namedBy, tableOf, outlineBy, outlineOf}
 use Rattle.outline.specs.declared.Crossing.the-variants.{Nowhere}
 
 -- ┌─╥┐

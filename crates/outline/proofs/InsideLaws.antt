@@ -11,9 +11,13 @@ use Rattle.model.specs.Box.{┌, ╥, ╬}
 use Rattle.model.specs.Refusals.{Reading}
 use Rattle.model.specs.declared.Rect.{Rect}
 use Rattle.walks.proofs.WalkLaws.{found-bound}
-use Rattle.outline.specs.Outline.{searchOf, namedOf, bodyOf, tableOf, outlineBy, outlineOf}
+use Rattle.walks.specs.declared.Direction.the-variants.{Right, Down, Left, Up}
+use Rattle.frames.specs.Body.{bodyOf}
+use Rattle.frames.specs.Cursor.{alongOf}
+use Rattle.frames.specs.declared.Lines.the-variants.{Body}
+use Rattle.outline.specs.Outline.{searchOf, namedOf, tableOf, outlineBy, outlineOf}
 use Rattle.outline.specs.declared.Outline.{Outline}
-use Rattle.outline.proofs.OutlineLaws.{search-in, upOf, downOf, leftOf, rightwardsOf}
+use Rattle.outline.proofs.OutlineLaws.{search-in}
 
 -- a body of w columns and h rows, around column x of row y
 pub record Around (w h x y : ℕ) (r : Rect) : Type 0 where
@@ -27,10 +31,10 @@ pub record Around (w h x y : ℕ) (r : Rect) : Type 0 where
 pub body-around : (p : Picture) (w h x y : ℕ) (r : Rect) → x < w → y < h → bodyOf p w h x y ≡ ok r → Around w h x y r
 unfolding bodyOf
 body-around p w h x y r a b e =
-    let u = then-ok (upOf p w h x y) _ r e in
-    let d = then-ok (downOf p w h x y) _ r (u .2) in
-    let l = then-ok (leftOf p w h x y) _ r (d .2) in
-    let q = then-ok (rightwardsOf p w h x y) _ r (l .2) in
+    let u = then-ok (alongOf Body Up p w h x y) _ r e in
+    let d = then-ok (alongOf Body Down p w h x y) _ r (u .2) in
+    let l = then-ok (alongOf Body Left p w h x y) _ r (d .2) in
+    let q = then-ok (alongOf Body Right p w h x y) _ r (l .2) in
     let fu = found-bound _ _ _ _ _ (u .1) in
     let fd = found-bound _ _ _ _ _ (d .1) in
     let fl = found-bound _ _ _ _ _ (l .1) in

@@ -12,7 +12,7 @@ use Rattle.lists.specs.Answer.{ok, refused}
 use Rattle.lists.specs.Choose.{choose}
 use Rattle.lists.specs.Picture.{Picture, at}
 use Rattle.lists.proofs.AnswerLaws.{refused-ok}
-use Rattle.model.specs.Box.{┌, ═, ║, ╞, ╟, ╡, ╢, ╤, ╥, ╧, ╨, ╪, ╫, ╬}
+use Rattle.model.specs.Box.{┌, ═, ║, ╥, ╪, ╫, ╬}
 use Rattle.model.specs.Refusals.{Reading}
 use Rattle.model.specs.declared.Rect.{Rect}
 use Rattle.model.specs.declared.Refusal.{Refusal}
@@ -20,11 +20,12 @@ use Rattle.model.specs.declared.Refusal.the-variants.{CharactersNotFound}
 use Rattle.walks.specs.Frame.{frameOf}
 use Rattle.walks.specs.Kinds.{name}
 use Rattle.walks.specs.Walk.{walkOf, goOf, stepsIn}
-use Rattle.walks.specs.declared.Direction.the-variants.{Right, Down, Left, Up}
+use Rattle.walks.specs.declared.Direction.the-variants.{Right, Down}
 use Rattle.walks.specs.declared.Walked.{Walked}
 use Rattle.walks.specs.declared.Walked.the-variants.{Steps, Stopped}
 use Rattle.walks.proofs.WalkLaws.{found-bound}
-use Rattle.outline.specs.Outline.{searchFrom, searchOf, namedBy, namedOf, crossingBy, bodyOf, tableOf, outlineBy, outlineOf}
+use Rattle.frames.specs.Body.{bodyOf}
+use Rattle.outline.specs.Outline.{searchFrom, searchOf, namedBy, namedOf, crossingBy, tableOf, outlineBy, outlineOf}
 use Rattle.outline.specs.Answers.{WalkFits}
 use Rattle.outline.specs.declared.Crossing.{Crossing}
 
@@ -83,42 +84,6 @@ module _ (p : Picture) (w h : ℕ) where
     pub name-refused : (r : Refusal) → frameOf name p w h 0 0 ≡ refused r → refused r ≡ namedOf p w h row
     unfolding namedBy
     name-refused r e = rw (lt-ltb 0 row b, e)
-
--- the walks to the sides of the body
-module _ (p : Picture) (w h x y : ℕ) where
-  abbrev pub upOf : Reading ℕ
-  upOf = goOf Up p w h x y (╥ ∷ []) (║ ∷ ╫ ∷ ╟ ∷ ╢ ∷ [])
-
-  abbrev pub downOf : Reading ℕ
-  downOf = goOf Down p w h x y (╨ ∷ []) (║ ∷ ╫ ∷ ╟ ∷ ╢ ∷ ╬ ∷ [])
-
-  abbrev pub leftOf : Reading ℕ
-  leftOf = goOf Left p w h x y (╞ ∷ []) (═ ∷ ╪ ∷ ╧ ∷ ╤ ∷ [])
-
-  abbrev pub rightwardsOf : Reading ℕ
-  rightwardsOf = goOf Right p w h x y (╡ ∷ []) (═ ∷ ╪ ∷ ╧ ∷ ╤ ∷ ╬ ∷ [])
-
-  module _ (r : Refusal) where
-    pub body-up : upOf ≡ refused r → refused r ≡ bodyOf p w h x y
-    unfolding bodyOf
-    body-up e = rw e
-
-    pub body-down : (u : ℕ) → upOf ≡ ok u → downOf ≡ refused r → refused r ≡ bodyOf p w h x y
-    unfolding bodyOf
-    body-down u eu e = rw (eu, e)
-
-    pub body-left : (u d : ℕ) → upOf ≡ ok u → downOf ≡ ok d → leftOf ≡ refused r → refused r ≡ bodyOf p w h x y
-    unfolding bodyOf
-    body-left u d eu ed e = rw (eu, ed, e)
-
-    pub body-right : (u d l : ℕ) → upOf ≡ ok u → downOf ≡ ok d → leftOf ≡ ok l → rightwardsOf ≡ refused r → refused r ≡ bodyOf p w h x y
-    unfolding bodyOf
-    body-right u d l eu ed el e = rw (eu, ed, el, e)
-
-  pub body-is : (u d l r : ℕ) → upOf ≡ ok u → downOf ≡ ok d → leftOf ≡ ok l → rightwardsOf ≡ ok r
-      → ok (record { left = x - l; top = y - u; right = x + r + 1; bottom = y + d + 1 }) ≡ bodyOf p w h x y
-  unfolding bodyOf
-  body-is u d l r eu ed el er = rw (eu, ed, el, er)
 
 -- the place that a walk came to fits
 pub walk-fits : (line : ℕ → ℕ) (s a : List ℕ) (n from : ℕ) (r : Walked) → from + n < 2 ^ 64 → stepsIn r ≡ walkOf line s a n → WalkFits from r

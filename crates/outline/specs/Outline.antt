@@ -1,5 +1,4 @@
--- The outline of a table on TEXT: document 01, "Canvas", and the Rust's `recognize_information_item_name`, `recognize_crossings` and
--- `recognize_body_rect`.
+-- The outline of a table on TEXT: document 01, "Canvas", and the Rust's `recognize_information_item_name` and `recognize_crossings`.
 use mathlib.Core.Bool.{Bool, true, false}
 use mathlib.Core.List.{[], _∷_}
 use Prim.Native.Nat.{ℕ, zero, suc, _+_, _-_, _*_, _/_, _%_}
@@ -7,14 +6,14 @@ use lib.Dec.{eqb, ltb}
 use Rattle.lists.specs.Answer.{ok, refused, _>>=_, _>>_}
 use Rattle.lists.specs.Choose.{choose}
 use Rattle.lists.specs.Picture.{Picture, at}
-use Rattle.model.specs.Box.{┌, ═, ║, ╞, ╟, ╡, ╢, ╤, ╥, ╧, ╨, ╪, ╫, ╬}
+use Rattle.model.specs.Box.{┌, ═, ║, ╥, ╪, ╫, ╬}
 use Rattle.model.specs.Refusals.{Reading}
-use Rattle.model.specs.declared.Rect.{Rect}
 use Rattle.model.specs.declared.Refusal.the-variants.{CharactersNotFound}
 use Rattle.walks.specs.Frame.{FrameFinder, frameOf}
 use Rattle.walks.specs.Kinds.{name}
 use Rattle.walks.specs.Walk.{goOf}
-use Rattle.walks.specs.declared.Direction.the-variants.{Right, Down, Left, Up}
+use Rattle.walks.specs.declared.Direction.the-variants.{Right, Down}
+use Rattle.frames.specs.Body.{bodyOf}
 use Rattle.outline.specs.declared.Crossing.{Crossing}
 use Rattle.outline.specs.declared.Crossing.the-variants.{At, Nowhere}
 use Rattle.outline.specs.declared.Outline.{Outline}
@@ -46,15 +45,6 @@ rightOf p w h x y = crossingBy x (goOf Right p w h x y (╬ ∷ []) (═ ∷ ╪
 
 abbrev pub belowOf : Picture → ℕ → ℕ → ℕ → ℕ → Crossing
 belowOf p w h x y = crossingBy y (goOf Down p w h x y (╬ ∷ []) (║ ∷ ╫ ∷ []))
-
--- the body, by four walks from the main crossing along its double lines
-unfoldable pub bodyOf : Picture → ℕ → ℕ → ℕ → ℕ → Reading Rect
-bodyOf p w h x y = do
-  u ← goOf Up p w h x y (╥ ∷ []) (║ ∷ ╫ ∷ ╟ ∷ ╢ ∷ [])
-  d ← goOf Down p w h x y (╨ ∷ []) (║ ∷ ╫ ∷ ╟ ∷ ╢ ∷ ╬ ∷ [])
-  l ← goOf Left p w h x y (╞ ∷ []) (═ ∷ ╪ ∷ ╧ ∷ ╤ ∷ [])
-  r ← goOf Right p w h x y (╡ ∷ []) (═ ∷ ╪ ∷ ╧ ∷ ╤ ∷ ╬ ∷ [])
-  ok (record { left = x - l; top = y - u; right = x + r + 1; bottom = y + d + 1 })
 
 -- the table whose main crossing stands at a place
 unfoldable pub tableOf : Picture → ℕ → ℕ → Bool → ℕ → Reading Outline

@@ -1,20 +1,16 @@
 // The outline of a table on the TEXT layer: whether it has a name, its crossings and its body.
-pub mod double_lines;
-
-use double_lines::*;
 use model::Rect;
 use model::Refusal;
 use model::box_drawing::*;
-use walks::Direction;
 use walks::Framed;
 use walks::Walked;
 ghost use mathlib.Core.Path.{_≡_};
 ghost use Prim.Native.Nat.{_*_, _≤_, _<_};
 ghost use lib.ListN.{length};
 ghost use Rattle.lists.specs.Picture.{canvas};
-ghost use Rattle.walks.specs.Frame.{Place, framedIn};
+ghost use Rattle.walks.specs.Frame.{Place};
 ghost use Rattle.walks.specs.Walk.{stepsIn};
-ghost use Rattle.outline.specs.Outline.{searchOf, namedOf, crossingBy, bodyOf, tableOf, outlineOf};
+ghost use Rattle.outline.specs.Outline.{searchOf, namedOf, crossingBy, tableOf, outlineOf};
 ghost use Rattle.outline.specs.Answers.{placeIn, namedIn, outlineIn, WalkFits};
 
 // A place in row order, or a character that is missing.
@@ -75,7 +71,7 @@ fn name_above(layer: &[u32], w: usize, h: usize, row: usize) -> Named
     if row == 0 {
         return Named::Told(false);
     }
-    match walks::recognize_name(layer, w, h) {
+    match frames::recognize_name(layer, w, h) {
         Framed::Closed(_) => Named::Told(true),
         Framed::NotFramed(r) => Named::NotNamed(r),
     }
@@ -92,35 +88,6 @@ fn crossed(from: usize, walked: Walked) -> Crossing
     }
 }
 
-// The body of the table whose main crossing stands in column x of row y.
-fn recognize_body(layer: &[u32], w: usize, h: usize, x: usize, y: usize) -> Framed
-    requires { ⌜ Place w h x y (length (now layer)) ⌝ }
-    ensures { λ r. ⌜ framedIn r ≡ bodyOf (canvas w h (now (layer .entry))) w h x y ⌝ }
-{
-    let up = match walks::go(Direction::Up, layer, w, h, x, y, &BODY_TOP, &TO_TOP) {
-        Walked::Steps(k) => k,
-        Walked::Stopped(r) => return Framed::NotFramed(r),
-    };
-    let down = match walks::go(Direction::Down, layer, w, h, x, y, &BODY_BOTTOM, &TO_BOTTOM) {
-        Walked::Steps(k) => k,
-        Walked::Stopped(r) => return Framed::NotFramed(r),
-    };
-    let left = match walks::go(Direction::Left, layer, w, h, x, y, &BODY_LEFT, &TO_LEFT) {
-        Walked::Steps(k) => k,
-        Walked::Stopped(r) => return Framed::NotFramed(r),
-    };
-    let right = match walks::go(Direction::Right, layer, w, h, x, y, &BODY_RIGHT, &TO_RIGHT) {
-        Walked::Steps(k) => k,
-        Walked::Stopped(r) => return Framed::NotFramed(r),
-    };
-    Framed::Closed(Rect {
-        left: x - left,
-        top: y - up,
-        right: x + right + 1,
-        bottom: y + down + 1,
-    })
-}
-
 // The table whose main crossing stands at a place.
 fn recognize_table(layer: &[u32], w: usize, h: usize, has_name: bool, cross: usize) -> Outlined
     requires { ⌜ (cross < h * w) × (h * w ≤ length (now layer)) ⌝ }
@@ -128,18 +95,12 @@ fn recognize_table(layer: &[u32], w: usize, h: usize, has_name: bool, cross: usi
 {
     let x = cross % w;
     let y = cross / w;
-    let body = match recognize_body(layer, w, h, x, y) {
+    let body = match frames::recognize_body(layer, w, h, x, y) {
         Framed::Closed(r) => r,
         Framed::NotFramed(r) => return Outlined::NotOutlined(r),
     };
-    let right = crossed(
-        x,
-        walks::go(Direction::Right, layer, w, h, x, y, &CROSSING, &ACROSS),
-    );
-    let below = crossed(
-        y,
-        walks::go(Direction::Down, layer, w, h, x, y, &CROSSING, &DOWN),
-    );
+    let right = crossed(x, frames::crossing_right(layer, w, h, x, y));
+    let below = crossed(y, frames::crossing_below(layer, w, h, x, y));
     Outlined::Table(Outline {
         named: has_name,
         x,

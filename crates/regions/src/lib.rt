@@ -71,7 +71,7 @@ fn add_region(layer: &[u32], w: usize, h: usize, i: usize, rects: &mut [u32], n:
     requires { ⌜ Layer w h (length (now layer)) × (i < h * w) × (n * 4 + 4 ≤ length (now rects)) ⌝ }
     ensures { λ r. ⌜ regionsIn r (now (rects .exit)) ≡ addRegion (frameOf thin (canvas w h (now (layer .entry))) w h) w i (rectsOf (now (rects .entry)) n) ⌝ }
 {
-    match walks::recognize_region(layer, w, h, i % w, i / w) {
+    match frames::recognize_region(layer, w, h, i % w, i / w) {
         Framed::Closed(r) => {
             put_rect(rects, n, r);
             Counted::Regions(n + 1)

@@ -125,7 +125,7 @@ fn why_none(layer: &[u32], w: usize, h: usize, x: usize, y: usize) -> Refusal
     requires { ⌜ Place w h x y (length (now layer)) ⌝ }
     ensures { λ r. ⌜ r ≡ noRegion (frameOf grid (canvas w h (now (layer .entry))) w h x y) ⌝ }
 {
-    match walks::recognize_rectangle(layer, w, h, x, y) {
+    match frames::recognize_rectangle(layer, w, h, x, y) {
         Framed::Closed(f) => Refusal::RegionNotFound(f.left, f.top),
         Framed::NotFramed(r) => r,
     }

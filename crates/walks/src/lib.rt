@@ -1,18 +1,13 @@
-// Walks along the rows and columns of a layer, and the frames that they find.
-pub mod corners;
-
-use corners::*;
+// Walks along the rows and columns of a layer.
 use model::Rect;
 use model::Refusal;
-use model::box_drawing::*;
 ghost use mathlib.Core.Path.{_≡_};
 ghost use Prim.Native.Nat.{_+_, _<_, _^_};
 ghost use lib.ListN.{length, getD};
 ghost use Rattle.lists.specs.OneOf.{oneOf};
 ghost use Rattle.lists.specs.Picture.{canvas};
 ghost use Rattle.walks.specs.Walk.{walkOf, goOf, stepsIn};
-ghost use Rattle.walks.specs.Frame.{Place, closeOf, frameOf, framedIn};
-ghost use Rattle.walks.specs.Kinds.{thin, grid, name};
+ghost use Rattle.walks.specs.Frame.{Place};
 ghost use Rattle.walks.specs.Line.{lineOf, Reach, nextOf, NextFits};
 
 pub enum Direction {
@@ -113,137 +108,4 @@ pub fn go(
         Direction::Left => walk_line(layer, true, at, 1, x, searched, allowed),
         Direction::Up => walk_line(layer, true, at, w, y, searched, allowed),
     }
-}
-
-// The four walks of a frame ended in column cx of row cy; its bottom right corner is in column bx of row by.
-fn close(x: usize, y: usize, cx: usize, cy: usize, bx: usize, by: usize) -> Framed
-    requires { ⌜ (bx + 1 < 2 ^ 64) × (by + 1 < 2 ^ 64) ⌝ }
-    ensures { λ r. ⌜ framedIn r ≡ closeOf x y cx cy bx by ⌝ }
-{
-    if cx == x {
-        if cy == y {
-            return Framed::Closed(Rect {
-                left: x,
-                top: y,
-                right: bx + 1,
-                bottom: by + 1,
-            });
-        }
-    }
-    Framed::NotFramed(Refusal::RectangleNotClosed(cx, cy))
-}
-
-// The frame that starts in column x of row y of w columns and h rows, by the characters of its corners and sides.
-fn frame(
-    layer: &[u32],
-    w: usize,
-    h: usize,
-    x: usize,
-    y: usize,
-    top_right: &[u32],
-    top: &[u32],
-    bottom_right: &[u32],
-    right: &[u32],
-    bottom_left: &[u32],
-    bottom: &[u32],
-    top_left: &[u32],
-    left: &[u32],
-) -> Framed
-    requires { ⌜ Place w h x y (length (now layer)) ⌝ }
-    ensures { λ r. ⌜ framedIn r ≡ frameOf (record { topRight = now («top_right» .entry); top = now (top .entry); bottomRight = now («bottom_right» .entry); right = now (right .entry); bottomLeft = now («bottom_left» .entry); bottom = now (bottom .entry); topLeft = now («top_left» .entry); left = now (left .entry) }) (canvas w h (now (layer .entry))) w h x y ⌝ }
-{
-    let a = match go(Direction::Right, layer, w, h, x, y, top_right, top) {
-        Walked::Steps(k) => k,
-        Walked::Stopped(r) => return Framed::NotFramed(r),
-    };
-    let bx = x + a;
-    let b = match go(Direction::Down, layer, w, h, bx, y, bottom_right, right) {
-        Walked::Steps(k) => k,
-        Walked::Stopped(r) => return Framed::NotFramed(r),
-    };
-    let by = y + b;
-    let c = match go(Direction::Left, layer, w, h, bx, by, bottom_left, bottom) {
-        Walked::Steps(k) => k,
-        Walked::Stopped(r) => return Framed::NotFramed(r),
-    };
-    let cx = bx - c;
-    let d = match go(Direction::Up, layer, w, h, cx, by, top_left, left) {
-        Walked::Steps(k) => k,
-        Walked::Stopped(r) => return Framed::NotFramed(r),
-    };
-    close(x, y, cx, by - d, bx, by)
-}
-
-// The region that starts in column x of row y of THIN.
-pub fn recognize_region(layer: &[u32], w: usize, h: usize, x: usize, y: usize) -> Framed
-    requires { ⌜ Place w h x y (length (now layer)) ⌝ }
-    ensures { λ r. ⌜ framedIn r ≡ frameOf thin (canvas w h (now (layer .entry))) w h x y ⌝ }
-{
-    frame(
-        layer,
-        w,
-        h,
-        x,
-        y,
-        &CORNERS_TOP_RIGHT,
-        &[LIGHT_HORIZONTAL, LIGHT_UP_AND_HORIZONTAL],
-        &CORNERS_BOTTOM_RIGHT,
-        &[LIGHT_VERTICAL, LIGHT_VERTICAL_AND_RIGHT],
-        &CORNERS_BOTTOM_LEFT,
-        &[LIGHT_HORIZONTAL, LIGHT_DOWN_AND_HORIZONTAL],
-        &CORNERS_TOP_LEFT,
-        &[LIGHT_VERTICAL, LIGHT_VERTICAL_AND_LEFT],
-    )
-}
-
-// The cell of the plane that starts in column x of row y of GRID.
-pub fn recognize_rectangle(layer: &[u32], w: usize, h: usize, x: usize, y: usize) -> Framed
-    requires { ⌜ Place w h x y (length (now layer)) ⌝ }
-    ensures { λ r. ⌜ framedIn r ≡ frameOf grid (canvas w h (now (layer .entry))) w h x y ⌝ }
-{
-    frame(
-        layer,
-        w,
-        h,
-        x,
-        y,
-        &GRID_TOP_RIGHT,
-        &[LIGHT_HORIZONTAL],
-        &GRID_BOTTOM_RIGHT,
-        &[LIGHT_VERTICAL],
-        &GRID_BOTTOM_LEFT,
-        &[LIGHT_HORIZONTAL],
-        &GRID_TOP_LEFT,
-        &[LIGHT_VERTICAL],
-    )
-}
-
-// The box of the name, which starts in the top left corner of TEXT.
-pub fn recognize_name(layer: &[u32], w: usize, h: usize) -> Framed
-    requires { ⌜ Place w h 0 0 (length (now layer)) ⌝ }
-    ensures { λ r. ⌜ framedIn r ≡ frameOf name (canvas w h (now (layer .entry))) w h 0 0 ⌝ }
-{
-    frame(
-        layer,
-        w,
-        h,
-        0,
-        0,
-        &[LIGHT_DOWN_AND_LEFT],
-        &[LIGHT_HORIZONTAL],
-        &[
-            LIGHT_UP_AND_HORIZONTAL,
-            LIGHT_VERTICAL_AND_LEFT,
-            LIGHT_VERTICAL_AND_HORIZONTAL,
-        ],
-        &[LIGHT_VERTICAL],
-        &[LIGHT_VERTICAL_AND_RIGHT],
-        &[
-            LIGHT_HORIZONTAL,
-            LIGHT_DOWN_AND_HORIZONTAL,
-            DOWN_DOUBLE_AND_HORIZONTAL_SINGLE,
-        ],
-        &[LIGHT_DOWN_AND_RIGHT],
-        &[LIGHT_VERTICAL],
-    )
 }

@@ -40,40 +40,28 @@ returns c =
     let g = c .before .before .before in
     no-body _ _ _ _ _ _ (sym (g .recognize-body .ensures) ∙ ap framedIn (c .before .r2 .given .1))
 
-slice-aggregate-go : tie.Need-slice-aggregate-go
-slice-aggregate-go c = search needs
-
-slice-aggregate-go-2 : tie.Need-slice-aggregate-go-2
-slice-aggregate-go-2 c = search needs
-
-go-requires : tie.Need-go-requires
-go-requires c κs = spot (start (c .before .before))
+crossing-right-requires : tie.Need-crossing-right-requires
+crossing-right-requires c κs = spot (start c)
 
 crossed-requires : tie.Need-crossed-requires
 crossed-requires c κs =
-    let t = start (c .before .before .before) in
-    walk-fits _ _ _ _ (t .args .cross % t .args .w) (c .go .result) (omega (arith, spot t .column, t .fits .w .fits)) (c .go .ensures)
+    let t = start (c .before) in
+    walk-fits _ _ _ _ (t .args .cross % t .args .w) (c .crossing-right .result) (omega (arith, spot t .column, t .fits .w .fits)) (c .crossing-right .ensures)
 
-slice-aggregate-go-3 : tie.Need-slice-aggregate-go-3
-slice-aggregate-go-3 c = search needs
-
-slice-aggregate-go-4 : tie.Need-slice-aggregate-go-4
-slice-aggregate-go-4 c = search needs
-
-go-requires-2 : tie.Need-go-requires-2
-go-requires-2 c κs = spot (start (c .before .before .before .before .before .before))
+crossing-below-requires : tie.Need-crossing-below-requires
+crossing-below-requires c κs = spot (start (c .before .before))
 
 crossed-requires-2 : tie.Need-crossed-requires-2
 crossed-requires-2 c κs =
-    let t = start (c .before .before .before .before .before .before .before) in
-    walk-fits _ _ _ _ (t .args .cross / t .args .w) (c .go2 .result) (omega (arith, spot t .row, t .fits .h .fits)) (c .go2 .ensures)
+    let t = start (c .before .before .before) in
+    walk-fits _ _ _ _ (t .args .cross / t .args .w) (c .crossing-below .result) (omega (arith, spot t .row, t .fits .h .fits)) (c .crossing-below .ensures)
 
 returns-2 : tie.Need-returns-2
 returns-2 c =
-    let b = c .before .before .before .before in
-    let k = b .before .before .before .before in
-    table-made _ _ _ _ _ _ (sym (k .before .before .before .recognize-body .ensures) ∙ ap framedIn (k .before .r .given .1)) (b .before .go .result) (c .before .go2 .result)
-    (b .crossed .ensures) (b .before .go .ensures) (c .crossed2 .ensures) (c .before .go2 .ensures)
+    let b = c .before .before in
+    let k = b .before .before in
+    table-made _ _ _ _ _ _ (sym (k .before .before .before .recognize-body .ensures) ∙ ap framedIn (k .before .r .given .1)) (b .before .crossing-right .result) (c .before .crossing-below .result)
+    (b .crossed .ensures) (b .before .crossing-right .ensures) (c .crossed2 .ensures) (c .before .crossing-below .ensures)
 
 pub recognize-table-spec : {M : Type 1} → statement M
 recognize-table-spec =
@@ -85,12 +73,8 @@ recognize-table-spec =
     enum-known-r
     enum-known-r-2
     returns
-    slice-aggregate-go
-    slice-aggregate-go-2
-    go-requires
+    crossing-right-requires
     crossed-requires
-    slice-aggregate-go-3
-    slice-aggregate-go-4
-    go-requires-2
+    crossing-below-requires
     crossed-requires-2
     returns-2)

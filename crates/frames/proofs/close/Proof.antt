@@ -1,9 +1,9 @@
--- `walks::close` meets its contract.
+-- `frames::close` meets its contract.
 use mathlib.Core.Path.{sym}
 use Rattle.walks.proofs.FrameLaws.{closed, open-row, open-column}
 use borrow.Author.Needs.{needs}
-use Rattle.walks.proofs.close.Statement.{statement}
-use Rattle.walks.proofs.close.Tie as tie
+use Rattle.frames.proofs.close.Statement.{statement}
+use Rattle.frames.proofs.close.Tie as tie
 
 add-t9 : tie.Need-add-t9
 add-t9 c = search needs

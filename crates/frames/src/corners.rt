@@ -1,4 +1,4 @@
-// The corners of frames, in the order in which the Rust searches for them.
+// The corners and sides of frames, the corners in the order in which the Rust searches for them.
 use model::box_drawing::*;
 
 // THIN: the corners of a region.
@@ -30,6 +30,20 @@ pub const CORNERS_BOTTOM_LEFT: [u32; 4] = [
     LIGHT_VERTICAL_AND_HORIZONTAL,
 ];
 
+// and its sides.
+pub const SIDES_TOP: [u32; 2] = [LIGHT_HORIZONTAL, LIGHT_UP_AND_HORIZONTAL];
+
+pub const SIDES_RIGHT: [u32; 2] = [LIGHT_VERTICAL, LIGHT_VERTICAL_AND_RIGHT];
+
+pub const SIDES_BOTTOM: [u32; 2] = [LIGHT_HORIZONTAL, LIGHT_DOWN_AND_HORIZONTAL];
+
+pub const SIDES_LEFT: [u32; 2] = [LIGHT_VERTICAL, LIGHT_VERTICAL_AND_LEFT];
+
+// A side with no line that ends at it.
+pub const ROW_SIDE: [u32; 1] = [LIGHT_HORIZONTAL];
+
+pub const COLUMN_SIDE: [u32; 1] = [LIGHT_VERTICAL];
+
 // GRID: the corners of a cell of the plane.
 pub const GRID_TOP_LEFT: [u32; 4] = [
     LIGHT_VERTICAL_AND_HORIZONTAL,
@@ -57,4 +71,23 @@ pub const GRID_BOTTOM_LEFT: [u32; 4] = [
     LIGHT_UP_AND_RIGHT,
     LIGHT_VERTICAL_AND_RIGHT,
     LIGHT_UP_AND_HORIZONTAL,
+];
+
+// TEXT: the name's box, whose bottom side has the table's own top side in it.
+pub const NAME_TOP_LEFT: [u32; 1] = [LIGHT_DOWN_AND_RIGHT];
+
+pub const NAME_TOP_RIGHT: [u32; 1] = [LIGHT_DOWN_AND_LEFT];
+
+pub const NAME_BOTTOM_RIGHT: [u32; 3] = [
+    LIGHT_UP_AND_HORIZONTAL,
+    LIGHT_VERTICAL_AND_LEFT,
+    LIGHT_VERTICAL_AND_HORIZONTAL,
+];
+
+pub const NAME_BOTTOM_LEFT: [u32; 1] = [LIGHT_VERTICAL_AND_RIGHT];
+
+pub const NAME_BOTTOM: [u32; 3] = [
+    LIGHT_HORIZONTAL,
+    LIGHT_DOWN_AND_HORIZONTAL,
+    DOWN_DOUBLE_AND_HORIZONTAL_SINGLE,
 ];

@@ -1,0 +1,123 @@
+-- Laws of where a walk leaves the cursor, and of four walks of one cursor.
+use mathlib.Core.Path.{_≡_, refl, sym, ap, _∙_, subst}
+use Prim.Native.Nat.{ℕ, _+_, _-_, _<_, _^_}
+use native.Mathlib.Omega.{arith}
+use Rattle.lists.specs.Answer.{ok, refused, _>>=_, _>>_}
+use Rattle.lists.specs.Picture.{Picture}
+use Rattle.model.specs.Refusals.{Reading}
+use Rattle.model.specs.declared.Point.{Point}
+use Rattle.model.specs.declared.Rect.{Rect}
+use Rattle.model.specs.declared.Refusal.{Refusal}
+use Rattle.walks.specs.Frame.{Place, rectOf, closeOf, frameOf}
+use Rattle.walks.specs.Kinds.{thin, grid, name}
+use Rattle.walks.specs.Walk.{stepsIn}
+use Rattle.walks.specs.declared.Direction.{Direction}
+use Rattle.walks.specs.declared.Direction.the-variants.{Right, Down, Left, Up}
+use Rattle.walks.specs.declared.Walked.{Walked}
+use Rattle.walks.specs.declared.Walked.the-variants.{Steps, Stopped}
+use Rattle.walks.proofs.FrameLaws.{closed, stops-right, stops-down, stops-left, stops-up, walked}
+use Rattle.walks.proofs.WalkLaws.{found-bound}
+use Rattle.frames.specs.Answers.{allOf, closedOf}
+use Rattle.frames.specs.Body.{bodyOf}
+use Rattle.frames.specs.Characters.{kindOf}
+use Rattle.frames.specs.Cursor.{alongOf, point, placeOf, placeAfter, MoveFits}
+use Rattle.frames.specs.declared.Lines.{Lines}
+use Rattle.frames.specs.declared.Lines.the-variants.{Region, Rectangle, Name, Body}
+use Rattle.frames.specs.declared.Moved.{Moved}
+
+-- a walk keeps to the picture
+pub kept : (lines : Lines) (d : Direction) (p : Picture) (w h len : ℕ) (at : Point) → Place w h (at .x) (at .y) len → (m : Reading ℕ) → alongOf lines d p w h (at .x) (at .y) ≡ m → Place w h (placeAfter d at m .x) (placeAfter d at m .y) len
+kept lines Right p w h len at i (ok k) e = record { column = omega (arith, found-bound _ _ _ _ _ e, i .column); row = i .row; size = i .size }
+kept lines Down p w h len at i (ok k) e = record { column = i .column; row = omega (arith, found-bound _ _ _ _ _ e, i .row); size = i .size }
+kept lines Left p w h len at i (ok k) e = record { column = omega (arith, i .column); row = i .row; size = i .size }
+kept lines Up p w h len at i (ok k) e = record { column = i .column; row = omega (arith, i .row); size = i .size }
+kept lines d p w h len at i (refused r) e = i
+
+pub fits : (lines : Lines) (d : Direction) (p : Picture) (w h len x y : ℕ) → Place w h x y len → w < 2 ^ 64 → h < 2 ^ 64 → (m : Reading ℕ) → m ≡ alongOf lines d p w h x y → MoveFits d x y m
+fits lines Right p w h len x y i a b (ok k) e = omega (arith, found-bound _ _ _ _ _ (sym e), i .column)
+fits lines Down p w h len x y i a b (ok k) e = omega (arith, found-bound _ _ _ _ _ (sym e), i .row)
+fits lines Left p w h len x y i a b (ok k) e = found-bound _ _ _ _ _ (sym e) .1
+fits lines Up p w h len x y i a b (ok k) e = found-bound _ _ _ _ _ (sym e) .1
+fits lines d p w h len x y i a b (refused r) e = tt
+
+-- where a walk comes to, by what it found
+pub arrives : (r : Moved) (d : Direction) (at : Point) (v : Walked) {m : Reading ℕ} → (placeOf r ≡ placeAfter d at (stepsIn v)) × (r .walked ≡ v) → stepsIn v ≡ m → (placeOf r ≡ placeAfter d at m) × (stepsIn (r .walked) ≡ m)
+arrives r d at v e f = (e .0 ∙ ap (placeAfter d at) f, ap stepsIn (e .1) ∙ f)
+
+-- what follows four walks
+pub all-walked : (m : Reading ℕ) (n : Reading Rect) (k : ℕ) → m ≡ ok k → n ≡ _>>_ m n
+all-walked m n k e = rw e
+
+pub all-stopped : (m : Reading ℕ) (n : Reading Rect) (r : Refusal) → m ≡ refused r → refused r ≡ _>>_ m n
+all-stopped m n r e = rw e
+
+-- the walks of one cursor over a picture
+module _ (lines : Lines) (p : Picture) (w h : ℕ) where
+  abbrev go : Direction → Point → Reading ℕ
+  go d at = alongOf lines d p w h (at .x) (at .y)
+
+  -- a walk from a place moved the cursor to b, and ended so
+  abbrev pub Moves : Direction → Point → Point → Walked → Type 0
+  Moves d at b n = (b ≡ placeAfter d at (go d at)) × (stepsIn n ≡ go d at)
+
+  came : (d : Direction) (at b : Point) (n : Walked) → Moves d at b n → b ≡ placeAfter d at (stepsIn n)
+  came d at b n m = m .0 ∙ ap (placeAfter d at) (sym (m .1))
+
+  pub stays : (d : Direction) (at b : Point) (n : Walked) (len : ℕ) → Moves d at b n → Place w h (at .x) (at .y) len → Place w h (b .x) (b .y) len
+  stays d at b n len m i = subst (λ (z : Point). Place w h (z .x) (z .y) len) (sym (m .0)) (kept lines d p w h len at i (go d at) refl)
+
+  -- around a frame: the first refusal of the four walks, or whether the cursor is back
+  module _ (x y : ℕ) where
+    pub around : (n1 n2 n3 n4 : Walked) (a b c e : Point) → Moves Right (point x y) a n1 → Moves Down a b n2 → Moves Left b c n3 → Moves Up c e n4
+        → closedOf x y (b .x) (b .y) (e .x) (e .y) n1 n2 n3 n4 ≡ frameOf (kindOf lines) p w h x y
+    around (Stopped r) n2 n3 n4 a b c e m1 m2 m3 m4 = sym (stops-right (kindOf lines) p w h x y r (sym (m1 .1)))
+    around (Steps i) (Stopped r) n3 n4 a b c e m1 m2 m3 m4 =
+        let m2' = subst (λ (z : Point). Moves Down z b (Stopped r)) (came Right (point x y) a (Steps i) m1) m2 in
+        sym (stops-down (kindOf lines) p w h x y r i (sym (m1 .1)) (sym (m2' .1)))
+    around (Steps i) (Steps j) (Stopped r) n4 a b c e m1 m2 m3 m4 =
+        let m2' = subst (λ (z : Point). Moves Down z b (Steps j)) (came Right (point x y) a (Steps i) m1) m2 in
+        let m3' = subst (λ (z : Point). Moves Left z c (Stopped r)) (came Down _ b (Steps j) m2') m3 in
+        sym (stops-left (kindOf lines) p w h x y r i (sym (m1 .1)) j (sym (m2' .1)) (sym (m3' .1)))
+    around (Steps i) (Steps j) (Steps k) (Stopped r) a b c e m1 m2 m3 m4 =
+        let m2' = subst (λ (z : Point). Moves Down z b (Steps j)) (came Right (point x y) a (Steps i) m1) m2 in
+        let m3' = subst (λ (z : Point). Moves Left z c (Steps k)) (came Down _ b (Steps j) m2') m3 in
+        let m4' = subst (λ (z : Point). Moves Up z e (Stopped r)) (came Left _ c (Steps k) m3') m4 in
+        sym (stops-up (kindOf lines) p w h x y r i (sym (m1 .1)) j (sym (m2' .1)) k (sym (m3' .1)) (sym (m4' .1)))
+    around (Steps i) (Steps j) (Steps k) (Steps l) a b c e m1 m2 m3 m4 =
+        let m2' = subst (λ (z : Point). Moves Down z b (Steps j)) (came Right (point x y) a (Steps i) m1) m2 in
+        let m3' = subst (λ (z : Point). Moves Left z c (Steps k)) (came Down _ b (Steps j) m2') m3 in
+        let m4' = subst (λ (z : Point). Moves Up z e (Steps l)) (came Left _ c (Steps k) m3') m4 in
+        (λ u. closeOf x y (came Up _ e (Steps l) m4' u .x) (came Up _ e (Steps l) m4' u .y) (came Down _ b (Steps j) m2' u .x) (came Down _ b (Steps j) m2' u .y))
+        ∙ sym (walked (kindOf lines) p w h x y i j k l (sym (m1 .1)) (sym (m2' .1)) (sym (m3' .1)) (sym (m4' .1)))
+
+-- to the sides of the body, from one place
+module _ (lines : Lines) (p : Picture) (w h x y : ℕ) where
+  abbrev sides : (u d l r : Reading ℕ) → Reading Rect
+  sides u d l r = _>>=_ u (λ u. _>>=_ d (λ d. _>>=_ l (λ l. _>>=_ r (λ r. ok (record { left = x - l; top = y - u; right = x + r + 1; bottom = y + d + 1 })))))
+
+  found : (u d l r : Reading ℕ) → _>>_ (_>>_ u (_>>_ d (_>>_ l r))) (ok (rectOf (placeAfter Left (point x y) l .x) (placeAfter Up (point x y) u .y) (placeAfter Right (point x y) r .x) (placeAfter Down (point x y) d .y))) ≡ sides u d l r
+  found (refused e) d l r = refl
+  found (ok u) (refused e) l r = refl
+  found (ok u) (ok d) (refused e) r = refl
+  found (ok u) (ok d) (ok l) (refused e) = refl
+  found (ok u) (ok d) (ok l) (ok r) = refl
+
+  pub sides-found : lines ≡ Body → (n1 n2 n3 n4 : Walked) (a b c e : Point) → Moves lines p w h Up (point x y) a n1 → Moves lines p w h Down (point x y) b n2 → Moves lines p w h Left (point x y) c n3 → Moves lines p w h Right (point x y) e n4
+      → closedOf (c .x) (a .y) (e .x) (b .y) (c .x) (a .y) n1 n2 n3 n4 ≡ bodyOf p w h x y
+  unfolding bodyOf
+  sides-found q n1 n2 n3 n4 a b c e m1 m2 m3 m4 =
+      ap (_>>_ (allOf n1 n2 n3 n4)) (closed (c .x) (a .y) (c .x) (a .y) (e .x) (b .y) refl refl)
+      ∙ (λ u. _>>_ (allOf n1 n2 n3 n4) (ok (rectOf (came lines p w h Left (point x y) c n3 m3 u .x) (came lines p w h Up (point x y) a n1 m1 u .y) (came lines p w h Right (point x y) e n4 m4 u .x) (came lines p w h Down (point x y) b n2 m2 u .y))))
+      ∙ found (stepsIn n1) (stepsIn n2) (stepsIn n3) (stepsIn n4)
+      ∙ (λ u. sides (m1 .1 u) (m2 .1 u) (m3 .1 u) (m4 .1 u))
+      ∙ ap (λ (z : Lines). sides (alongOf z Up p w h x y) (alongOf z Down p w h x y) (alongOf z Left p w h x y) (alongOf z Right p w h x y)) q
+
+-- the kinds of frames that the lines have
+region-kind : kindOf Region ≡ thin
+region-kind = refl
+
+rectangle-kind : kindOf Rectangle ≡ grid
+rectangle-kind = refl
+
+name-kind : kindOf Name ≡ name
+name-kind = refl

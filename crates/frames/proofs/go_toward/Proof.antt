@@ -1,0 +1,15 @@
+-- `frames::go_toward` meets its contract.
+use borrow.Author.Needs.{needs}
+use Rattle.frames.proofs.go_toward.Statement.{statement}
+use Rattle.frames.proofs.go_toward.Tie as tie
+
+pub go-toward-spec : {M : Type 1} → statement M
+go-toward-spec =
+    tie.close
+    (tie.spec
+    (λ c. search needs) (λ c κs. search needs) (λ c. search needs) (λ c κs. search needs)
+    (λ c. search needs) (λ c κs. search needs) (λ c. search needs) (λ c κs. search needs)
+    (λ c. let e = c .before .enum-told .given .1 in rw e (rw e at (c .go .ensures)))
+    (λ c. let e = c .before .enum-told2 .given .1 in rw e (rw e at (c .go2 .ensures)))
+    (λ c. let e = c .before .enum-told3 .given .1 in rw e (rw e at (c .go3 .ensures)))
+    (λ c. let e = c .before .enum-told4 .given .1 in rw e (rw e at (c .go4 .ensures))))

@@ -1,0 +1,4 @@
+pub mod Characters
+pub mod Cursor
+pub mod Body
+pub mod Answers
