@@ -2,6 +2,7 @@
 
 use crate::corpora::{planes, sheets, texts};
 use crate::mock::{WRONG, Wrong};
+use crate::report::Reached;
 use crate::shrink::{Drawn, shrunk};
 use crate::workers::Run;
 use crate::{edges, rooms};
@@ -265,4 +266,19 @@ fn inputs_at_the_limits() {
     }
     assert_eq!(causes.len(), 4 * over.len());
     assert!(over.as_flattened().iter().all(|cause| causes.contains(cause)));
+}
+
+/// A refusal that is reached too seldom is told, and one that is reached against its law.
+#[test]
+fn refusals_reached() {
+    let (table, wrong) = Reached::default().told();
+    assert!(table.contains("clauses OnlyTwoSizes.only-two-sizes"));
+    let seldom = "23 (no output clause) is reached 0 times by the reader: too seldom";
+    assert!(wrong.iter().any(|line| line == seldom), "{wrong:?}");
+    let mut reached = Reached::default();
+    for name in ["refused 25 3", "refused 26 rows", "refused 28 9"] {
+        reached.0[0].add(name);
+    }
+    let (_, wrong) = reached.told();
+    assert_eq!(wrong.iter().filter(|line| line.ends_with("against its law")).count(), 3);
 }
