@@ -55,8 +55,8 @@ pub type Regions = (Vec<Rect>, Vec<String>);
 pub enum Stop {
     /// A walk fails or a region is missing: the Rust tells which.
     TheRust,
-    /// Number 7.
-    OverLimits,
+    /// Number 7, with the limit that is passed.
+    OverLimits(&'static str),
 }
 
 /// The rows of a sheet: trimmed lines that are not blank, from the first that begins with ┌ up to
@@ -286,13 +286,13 @@ fn region_text(text: &Layer, rect: &Rect) -> String {
 fn regions(text: &Layer, thin: &Layer) -> Result<Regions, Stop> {
     let places = corners(thin);
     if places.len() > REGIONS {
-        return Err(Stop::OverLimits);
+        return Err(Stop::OverLimits("regions"));
     }
     let walked: Option<Vec<Rect>> = places.iter().map(|place| frame(thin, *place, &THIN)).collect();
     let rects = walked.ok_or(Stop::TheRust)?;
     let texts: Vec<String> = rects.iter().map(|rect| region_text(text, rect)).collect();
     if texts.iter().map(String::len).sum::<usize>() > TEXT_BYTES {
-        return Err(Stop::OverLimits);
+        return Err(Stop::OverLimits("texts"));
     }
     Ok((rects, texts))
 }
@@ -303,8 +303,11 @@ impl Plane {
         if row == self.rows.len() {
             self.rows.push(vec![]);
         }
-        if row >= PLANE_ROWS || self.rows[row].len() >= PLANE_CELLS {
-            return Err(Stop::OverLimits);
+        if row >= PLANE_ROWS {
+            return Err(Stop::OverLimits("rows"));
+        }
+        if self.rows[row].len() >= PLANE_CELLS {
+            return Err(Stop::OverLimits("cells"));
         }
         self.rows[row].push(PlaneCell { kind, region });
         Ok(())

@@ -32,6 +32,11 @@ impl Counts {
         self.0.iter().find(|((_, known), _)| known == name).map_or(0, |(_, count)| *count)
     }
 
+    /// The counts of the outcomes with such names, added up.
+    pub fn sum(&self, is_such: impl Fn(&str) -> bool) -> usize {
+        self.0.iter().filter(|((_, name), _)| is_such(name)).map(|(_, count)| count).sum()
+    }
+
     pub fn all(&self) -> usize {
         self.0.values().sum()
     }
@@ -64,7 +69,7 @@ fn outcome(line: &str) -> Option<(u32, String)> {
         ("record", Some("rows")) => (0, line.to_string()),
         ("record", Some("columns")) => (1, line.to_string()),
         ("own", None) => (2, "own".to_string()),
-        ("values", Some(_)) => (3, "values".to_string()),
+        ("values", _) => (3, "values".to_string()),
         ("upright", Some("0")) => (4, "upright rows".to_string()),
         ("upright", Some("1")) => (5, "upright columns".to_string()),
         ("refused", Some(number)) => {
@@ -75,10 +80,14 @@ fn outcome(line: &str) -> Option<(u32, String)> {
     Some(outcome)
 }
 
-/// The number of a refusal, with the check of 25 and the condition of 10, if it is told.
+/// The number of a refusal, with the check of 25, the slice of 28 and a condition in words, if it is told.
 fn refusal(number: &str, detail: Option<&str>) -> String {
     match detail {
-        Some(detail) if number == "25" || detail.starts_with('P') => {
+        Some(detail)
+            if number == "25"
+                || number == "28"
+                || detail.starts_with(|c: char| c.is_ascii_alphabetic()) =>
+        {
             format!("refused {number} {detail}")
         }
         _ => format!("refused {number}"),

@@ -57,7 +57,7 @@ fn read(text: &str, layer: &Layer, canvas: &mut Canvas) -> Judged<Result<Read, O
 /// The refusal where the judge's own canvas stops. Where a walk fails, the Rust's plane tells why.
 fn stopped(text: &str, stop: Stop, rust: &RustPlane) -> Judged<Outcome> {
     match (stop, rust) {
-        (Stop::OverLimits, _) => Ok(refused_plainly(7)),
+        (Stop::OverLimits(_), _) => Ok(refused_plainly(7)),
         (Stop::TheRust, Ok(Err(error))) => Ok(refusal(error)),
         (Stop::TheRust, Err(ten)) => Ok(ten.clone()),
         (Stop::TheRust, Ok(Ok(_))) => Err(Fault(format!("regions differ on:\n{text}"))),

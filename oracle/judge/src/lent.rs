@@ -9,6 +9,20 @@ use recognizer::plane::{Cell, HitPolicyPlacement, Plane, RuleNumbersPlacement};
 use recognizer::rect::Rect;
 use recognizer::{DecisionTableOrientation, HitPolicy, Recognizer};
 
+/// The causes of number 26.
+pub const CAUSES: [&str; 10] = [
+    "rows",
+    "cells",
+    "regions",
+    "bytes",
+    "cell-counts",
+    "part-counts",
+    "kind",
+    "region",
+    "part",
+    "utf-8",
+];
+
 /// The slices of a lent plane.
 #[derive(Debug, Default, Clone, PartialEq, Eq)]
 pub struct Lent {
@@ -58,44 +72,42 @@ impl Lent {
         self.lists().map(|list| listed(&list)).join(" ")
     }
 
-    /// Number 26: which of several faults there is does not show.
+    /// Number 26.
     pub fn is_refused(&self) -> bool {
-        self.is_over_limits() || self.is_uncounted() || self.has_bad_cell() || self.has_bad_part()
+        self.cause().is_some()
     }
 
-    fn is_over_limits(&self) -> bool {
-        self.row_lengths.len() > PLANE_ROWS
-            || self.row_lengths.iter().any(|length| *length > PLANE_CELLS as u64)
-            || self.offsets.len() > REGIONS
-            || self.lengths.len() > REGIONS
-            || self.bytes.len() > TEXT_BYTES
-    }
-
-    /// Cell slices not as long as the row lengths add up to, or parts with half a place.
-    fn is_uncounted(&self) -> bool {
+    /// The first cause of number 26 that holds, in the order of `CAUSES`; the answer does not tell which.
+    pub fn cause(&self) -> Option<&'static str> {
         let cells: u128 = self.row_lengths.iter().map(|length| u128::from(*length)).sum();
-        self.kinds.len() as u128 != cells
-            || self.regions.len() as u128 != cells
-            || self.offsets.len() != self.lengths.len()
-    }
-
-    /// An unknown kind, or an unknown region of a kind 0 cell.
-    fn has_bad_cell(&self) -> bool {
         let known = self.offsets.len() as u64;
-        let mut cells = self.kinds.iter().zip(&self.regions);
-        cells.any(|(kind, region)| *kind >= KINDS || (*kind == 0 && *region >= known))
+        let placed = self.kinds.iter().zip(&self.regions);
+        let parts = || (0..self.offsets.len()).map(|region| self.part(region));
+        let held: [&dyn Fn() -> bool; 10] = [
+            &|| self.row_lengths.len() > PLANE_ROWS,
+            &|| self.row_lengths.iter().any(|length| *length > PLANE_CELLS as u64),
+            &|| self.offsets.len().max(self.lengths.len()) > REGIONS,
+            &|| self.bytes.len() > TEXT_BYTES,
+            &|| [self.kinds.len(), self.regions.len()].iter().any(|count| *count as u128 != cells),
+            &|| self.offsets.len() != self.lengths.len(),
+            &|| self.kinds.iter().any(|kind| *kind >= KINDS),
+            &|| placed.clone().any(|(kind, region)| *kind == 0 && *region >= known),
+            &|| parts().any(|part| part.is_none()),
+            &|| parts().flatten().any(|part| std::str::from_utf8(part).is_err()),
+        ];
+        held.iter().zip(CAUSES).find(|(holds, _)| holds()).map(|(_, cause)| cause)
     }
 
-    /// A part outside the bytes or not UTF-8, of a region that is used or not.
-    fn has_bad_part(&self) -> bool {
-        (0..self.offsets.len()).any(|region| self.text(region).is_none())
+    /// The bytes of a region, used or not, where they are within the slice.
+    fn part(&self, region: usize) -> Option<&[u8]> {
+        let start = usize::try_from(self.offsets[region]).ok()?;
+        let end = start.checked_add(usize::try_from(self.lengths[region]).ok()?)?;
+        self.bytes.get(start..end)
     }
 
     /// The text of a region.
-    fn text(&self, region: usize) -> Option<&str> {
-        let start = usize::try_from(self.offsets[region]).ok()?;
-        let end = start.checked_add(usize::try_from(self.lengths[region]).ok()?)?;
-        std::str::from_utf8(self.bytes.get(start..end)?).ok()
+    pub fn text(&self, region: usize) -> Option<&str> {
+        std::str::from_utf8(self.part(region)?).ok()
     }
 
     /// The cell at a place of the cell slices.

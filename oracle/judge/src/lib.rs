@@ -12,6 +12,7 @@ pub mod line;
 pub mod messages;
 pub mod outcome;
 pub mod packed;
+pub mod placement;
 pub mod record;
 pub mod rows;
 pub mod sheet;

@@ -84,21 +84,24 @@ pub fn compare_planes(
     rust: &RustPlane,
 ) -> Judged<()> {
     let same = match (own, rust) {
-        (Err(canvas::Stop::OverLimits), _) => true,
+        (Err(canvas::Stop::OverLimits(_)), _) => true,
         (Ok(own), Ok(Ok(rust))) => same_plane(own, rust),
         (own, rust) => own.is_err() && !matches!(rust, Ok(Ok(_))),
     };
     agree(same, || format!("planes differ on:\n{text}"))
 }
 
-/// Number 7, from the judge's own canvas. Where it finds none, it must see what the Rust sees.
-fn over_limits(text: &str, rows: &canvas::Layer) -> Judged<bool> {
+/// The limit of number 7 that is passed, from the judge's own canvas. Where none is, it must see what the Rust sees.
+fn over_limits(text: &str, rows: &canvas::Layer) -> Judged<Option<&'static str>> {
     let Ok(Ok(mut scanned)) = run(|| Canvas::scan(text)) else {
-        return Ok(false);
+        return Ok(None);
     };
     let own = canvas::plane(rows);
     compare_planes(text, &own, &run(|| scanned.plane()))?;
-    Ok(matches!(own, Err(canvas::Stop::OverLimits)))
+    match own {
+        Err(canvas::Stop::OverLimits(limit)) => Ok(Some(limit)),
+        _ => Ok(None),
+    }
 }
 
 /// The text and the rows of a sheet whose canvas is not too large; else number 1 or 2.
@@ -115,16 +118,21 @@ pub fn rows_of(bytes: &[u8]) -> Result<(&str, canvas::Layer), Outcome> {
 
 /// The answer to the bytes of a sheet.
 pub fn judge_sheet(bytes: &[u8], record_bytes: usize) -> Judged<Outcome> {
+    Ok(judged_sheet(bytes)?.0.within(record_bytes))
+}
+
+/// The answer where no record is too long, with the limit that is passed where it is 7.
+pub fn judged_sheet(bytes: &[u8]) -> Judged<(Outcome, Option<&'static str>)> {
     let (text, rows) = match rows_of(bytes) {
         Ok(found) => found,
-        Err(outcome) => return Ok(outcome),
+        Err(outcome) => return Ok((outcome, None)),
     };
-    if over_limits(text, &rows)? {
-        return Ok(refused_plainly(7));
+    if let Some(limit) = over_limits(text, &rows)? {
+        return Ok((refused_plainly(7), Some(limit)));
     }
     let outcome = by_the_rust(text);
     agree(outcome == by_the_copy(text), || format!("the copy differs on:\n{text}"))?;
-    Ok(outcome.within(record_bytes))
+    Ok((outcome, None))
 }
 
 /// The sheets of a file: each is a line `sheet N`, then N bytes and a line feed.

@@ -4,12 +4,13 @@ use crate::canvas;
 use crate::clauses::refusal_of;
 use crate::lent::{Lent, judge_plane};
 use crate::outcome::{Judged, Outcome, Told, agree, run};
+use crate::placement::condition;
 use crate::record::is_by_rows;
-use crate::sheet::{judge_sheet, rows_of};
+use crate::sheet::{judged_sheet, rows_of};
 use crate::upright::{Upright, upright_of};
 use recognizer::canvas::Canvas;
 
-/// A record or a refusal, with the condition of a 10 of the clause rules.
+/// A record or a refusal, with the condition of a 10, the limit of a 7 and the cause of a 26.
 #[derive(Debug, Clone, PartialEq, Eq)]
 pub struct Answer {
     pub outcome: Outcome,
@@ -17,12 +18,12 @@ pub struct Answer {
 }
 
 impl Answer {
-    /// What is counted: the number, with the check of 25 and the condition of 10.
+    /// What is counted: the number, with the check of 25, the slice of 28, and the condition.
     pub fn name(&self) -> String {
         match (&self.outcome, self.condition) {
             (Outcome::Record(bytes), _) if is_by_rows(bytes) => "record rows".to_string(),
             (Outcome::Record(_), _) => "record columns".to_string(),
-            (Outcome::Refused(25, check, _), _) => format!("refused 25 {check}"),
+            (Outcome::Refused(n @ (25 | 28), which, _), _) => format!("refused {n} {which}"),
             (Outcome::Refused(number, _, _), Some(name)) => format!("refused {number} {name}"),
             (Outcome::Refused(number, _, _), None) => format!("refused {number}"),
         }
@@ -51,7 +52,9 @@ fn is_told(rust: &Outcome, read: &Outcome) -> bool {
 pub fn plane_answer(lent: &Lent, upright: &Result<Upright, Outcome>) -> Judged<Answer> {
     let differs = || format!("the reading of the clauses differs on:\n{}", lent.line());
     match upright {
-        Err(refused) => Ok(refused.clone().into()),
+        Err(refused) => {
+            Ok(Answer { outcome: refused.clone(), condition: condition(lent, refused) })
+        }
         Ok(sheet) => told(judge_plane(lent, usize::MAX), sheet, differs),
     }
 }
@@ -95,12 +98,12 @@ fn lent_of(bytes: &[u8]) -> Option<Lent> {
 /// The answer to a sheet; no record is too long. What a refused sheet's plane states must be refused
 /// as the sheet is.
 pub fn sheet_answer(bytes: &[u8]) -> Judged<Answer> {
-    let outcome = judge_sheet(bytes, usize::MAX)?;
+    let (outcome, limit) = judged_sheet(bytes)?;
     let lent = match &outcome {
         Outcome::Refused(8.., _, _) => lent_of(bytes),
         _ => None,
     };
-    let Some(lent) = lent else { return Ok(outcome.into()) };
+    let Some(lent) = lent else { return Ok(Answer { outcome, condition: limit }) };
     let answer = plane_answer(&lent, &upright_of(&lent))?;
     agree(is_told(&outcome, &answer.outcome), || {
         format!("the plane is answered otherwise than its sheet:\n{}", lent.line())

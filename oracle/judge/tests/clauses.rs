@@ -70,17 +70,10 @@ fn outcomes_of_planes() {
     for lent in (0..PLANES).map(|case| lent_plane(1, case)).chain(aimed) {
         counts.add(&answer(&lent).name());
     }
-    let numbers = (8..=26).filter(|number| *number != 25).map(|number| format!("refused {number}"));
-    let details = [
-        "record rows",
-        "record columns",
-        "refused 10 P7",
-        "refused 10 P8",
-        "refused 10 P9",
-        "refused 25 8",
-        "refused 25 12",
-    ];
-    for name in numbers.chain(details.map(str::to_string)) {
+    let plain = (8..=24).filter(|number| *number != 10).map(|number| format!("refused {number}"));
+    let conditions = (1..=9).map(|condition| format!("refused 10 P{condition}"));
+    let details = ["record rows", "record columns", "refused 25 8", "refused 25 12"];
+    for name in plain.chain(conditions).chain(details.map(str::to_string)) {
         assert!(counts.of(&name) >= 10, "{name}\n{counts}");
     }
     assert_eq!(counts.all() as u64, PLANES + PLANES / 5);

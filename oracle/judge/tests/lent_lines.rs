@@ -4,9 +4,10 @@ use judge::generate::hand_planes::{CHANGES, FAULTS, SHEETS, changed, full, lent,
 use judge::generate::{Kind, generate};
 use judge::lent::Lent;
 use judge::line::answer;
-use judge::outcome::Judged;
+use judge::outcome::{Judged, silence_the_rust};
 use judge::packed::{pack, unpack};
-use judge::upright::judge_upright;
+use judge::told::plane_answer;
+use judge::upright::{judge_upright, upright_of};
 
 /// The first line of the answer to a plane.
 fn head(lent: &Lent) -> String {
@@ -27,11 +28,31 @@ fn sheets_made_by_hand() {
     }
 }
 
+/// The condition of each 10, in the order of the list.
+#[test]
+fn conditions_of_ten() {
+    silence_the_rust();
+    let name = |rows: &[&str]| {
+        let lent = lent(rows);
+        plane_answer(&lent, &upright_of(&lent)).expect("the judge agrees with the Rust").name()
+    };
+    let names: Vec<String> = SHEETS.iter().map(|(rows, _)| name(rows)).collect();
+    let tens: Vec<&str> =
+        names.iter().filter_map(|name| name.strip_prefix("refused 10 ")).collect();
+    assert_eq!(tens[..8], ["P7", "P1", "P2", "P3", "P3", "P4", "P5", "P6"]);
+}
+
 #[test]
 fn changes_of_the_fare_sheet() {
+    let mut causes = vec![];
     for (cause, change) in FAULTS {
         assert_eq!(head(&changed(change)), "refused 26 0 0", "{cause}");
+        causes.push(changed(change).cause().expect("a cause"));
     }
+    let counts = ["cell-counts"; 3].into_iter().chain(["part-counts"; 2]);
+    let parts = ["kind", "region", "part", "part", "utf-8", "part"];
+    let expected = ["rows", "cells", "regions"].into_iter().chain(counts).chain(parts);
+    assert_eq!(causes, expected.collect::<Vec<_>>());
     let fare = judge_upright(&changed(|_| ()));
     for (what, change) in CHANGES {
         assert_eq!(judge_upright(&changed(change)), fare, "{what}");

@@ -1,31 +1,38 @@
-//! Compares the records and refusals of the port with the Rust's, and counts the answers.
+//! Compares the answers of the port with the Rust's, and counts them.
 
-use crate::inputs::Input;
+use crate::inputs::{Input, Lending};
 use crate::noise::Noise;
-use crate::port;
-use crate::rooms::{Room, rooms};
+use crate::rooms::Room;
+use crate::shrink::shrunk;
 use crate::slices::{Out, Works};
 use crate::workers::Run;
 use judge::count::Counts;
 use judge::generate::random::Random;
-use judge::outcome::{Fault, Outcome, Told};
-use judge::told::Answer;
+use judge::outcome::Fault;
+use std::cell::RefCell;
 use std::sync::atomic::{AtomicU64, Ordering::Relaxed};
 
-/// Names that show in the counts even where there are none.
-const RECORDS: [&str; 2] = ["record rows", "record columns"];
-const DETAILS: [&str; 5] =
-    ["refused 10 P7", "refused 10 P8", "refused 10 P9", "refused 25 8", "refused 25 12"];
+/// The rooms in which an input is read that writes so many bytes, or none.
+pub type Rooms = fn(&mut Random, &[usize], Option<usize>) -> Vec<Room>;
 
-/// Counts that show records and these refusals.
-pub fn showing(numbers: impl Iterator<Item = u32>) -> Counts {
-    let numbers = numbers.filter(|number| *number != 25).map(|number| format!("refused {number}"));
-    let named = RECORDS.iter().chain(&DETAILS).map(|name| name.to_string());
-    Counts::showing(&named.chain(numbers).collect::<Vec<String>>())
+/// A difference between the port and the Rust: what is wrong, in which room, with which noise in the slices.
+struct Difference {
+    wrong: String,
+    said: String,
+    room: Option<Room>,
+    noise: usize,
+}
+
+impl Difference {
+    /// What is wrong, without the numbers that change with the input.
+    fn sort(&self) -> String {
+        let is_number = |c: char| c.is_ascii_digit() && !self.wrong.starts_with("work slice");
+        self.wrong.replace(is_number, "")
+    }
 }
 
 /// The random numbers of a case's slices: others than those of its input.
-pub fn random_of(run: Run, case: u64) -> Random {
+fn random_of(run: Run, case: u64) -> Random {
     const SLICES: u64 = 1_000;
     Random::of(&[SLICES, run.seed, case])
 }
@@ -46,88 +53,130 @@ impl Desk {
         }
     }
 
-    /// Calls the port with a room; what is wrong with its answer or with a slice.
-    fn call(&mut self, input: &impl Input, room: &Room, rust: &Outcome) -> Result<(), String> {
+    /// Calls the port in a room; the name of the answer, or what is wrong with it or with a slice.
+    fn call<I: Input>(
+        &mut self,
+        input: &I,
+        room: &Room,
+        rust: &I::Rust,
+    ) -> Result<String, Difference> {
+        let noise = self.noise.place();
         self.works.lend(&room.works, &mut self.noise);
         self.out.lend(room.out, &mut self.noise);
-        let port = input.port(&mut self.works, &mut self.out);
-        let is_same = port == numbers(rust);
-        let wrong = if is_same { self.wrong(rust) } else { Some("outcomes differ".to_string()) };
-        let Some(wrong) = wrong else { return Ok(()) };
-        let rust = String::from_utf8_lossy(&rust.print()).into_owned();
-        Err(format!("{room}\n{wrong}\nthe Rust: {rust}the port: {port:?}"))
-    }
-
-    /// What is wrong with a slice after the right answer.
-    fn wrong(&self, rust: &Outcome) -> Option<String> {
-        let (record, is_kept) = match rust {
-            Outcome::Record(bytes) => (bytes.as_slice(), false),
-            Outcome::Refused(number, _, _) => (&[][..], *number == 28),
+        let lent = Lending { room, works: &mut self.works, out: &mut self.out };
+        let (wrong, said) = match input.call(rust, lent) {
+            Err(said) => ("outcomes differ".to_string(), said),
+            Ok(ended) => {
+                let kept = || self.works.wrong(ended.is_kept, &self.noise);
+                match self.out.wrong(ended.written).or_else(kept) {
+                    None => return Ok(ended.name),
+                    Some(wrong) => (wrong, format!("both answer {}", ended.name)),
+                }
+            }
         };
-        self.out.wrong(record).or_else(|| self.works.wrong(is_kept, &self.noise))
+        Err(Difference { wrong, said, room: Some(room.clone()), noise })
+    }
+
+    /// Compares one input in some rooms, and counts what its calls come to.
+    fn compared<I: Input>(
+        &mut self,
+        input: &I,
+        rooms: impl FnOnce(Option<usize>) -> Vec<Room>,
+        counts: &mut Counts,
+    ) -> Result<(), Difference> {
+        let rust = input.rust().map_err(|Fault(said)| {
+            let wrong = "the judge and the Rust differ".to_string();
+            Difference { wrong, said, room: None, noise: self.noise.place() }
+        })?;
+        for room in rooms(I::written(&rust).map(<[u8]>::len)) {
+            counts.add(&self.call(input, &room, &rust)?);
+        }
+        Ok(())
     }
 }
 
-/// The numbers that the port must answer.
-fn numbers(rust: &Outcome) -> port::Answer {
-    let told = |told: &Told| match told {
-        Told::Number(number) => *number,
-        Told::Unknown => unreachable!("all numbers are told"),
+/// The smallest input found with a difference of the same sort, and that difference.
+fn cut_down<I: Input>(
+    run: Run,
+    input: I,
+    found: Difference,
+    fits: fn(&I) -> bool,
+) -> (I, Difference) {
+    let desk = RefCell::new(Desk::of::<I>(run));
+    let room = found.room.clone();
+    let written = input.rust().ok().and_then(|rust| I::written(&rust).map(<[u8]>::len));
+    let differs = |less: &I| {
+        let mut desk = desk.borrow_mut();
+        desk.noise.set_place(found.noise);
+        let rooms = |bytes| room.iter().map(|room| room.for_bytes(written, bytes)).collect();
+        let other = desk.compared(less, rooms, &mut Counts::default()).err()?;
+        (other.sort() == found.sort()).then_some(other)
     };
-    match rust {
-        Outcome::Record(bytes) => port::Answer { n: 0, a: bytes.len() as u64, b: 0 },
-        Outcome::Refused(n, a, b) => port::Answer { n: (*n).into(), a: told(a), b: told(b) },
+    let smallest = shrunk(input, |less| fits(less) && differs(less).is_some());
+    let difference = differs(&smallest);
+    (smallest, difference.unwrap_or(found))
+}
+
+/// A desk for inputs that come one by one.
+pub struct Single<I> {
+    run: Run,
+    desk: Desk,
+    fits: fn(&I) -> bool,
+}
+
+impl<I: Input> Single<I> {
+    pub fn new(run: Run, fits: fn(&I) -> bool) -> Self {
+        Self { run, desk: Desk::of::<I>(run), fits }
+    }
+
+    /// Compares an input in the rooms of a case.
+    pub fn compared(
+        &mut self,
+        input: I,
+        case: u64,
+        rooms: Rooms,
+        counts: &mut Counts,
+    ) -> Result<(), String> {
+        self.desk.noise.begin(case);
+        let random = &mut random_of(self.run, case);
+        let found = self.desk.compared(&input, |bytes| rooms(random, I::SIZES, bytes), counts);
+        found.map_err(|found| {
+            let (input, found) = cut_down(self.run, input, found, self.fits);
+            let room = found.room.map_or(String::new(), |room| format!("{room}\n"));
+            format!("cut down to:\n{}\n{room}{}\n{}", input.shown(), found.wrong, found.said)
+        })
     }
 }
 
-/// Compares one input, and counts what its calls come to.
-fn compared<I: Input>(
-    input: &I,
-    random: &mut Random,
-    desk: &mut Desk,
-    counts: &mut Counts,
-) -> Result<(), String> {
-    let rust = input.rust().map_err(|Fault(what)| what)?;
-    let record = match &rust.outcome {
-        Outcome::Record(bytes) => Some(bytes.len()),
-        Outcome::Refused(..) => None,
-    };
-    for room in rooms(random, I::SIZES, record) {
-        let outcome = room.outcome(&rust.outcome, I::SIZES);
-        desk.call(input, &room, &outcome)?;
-        let is_short = outcome != rust.outcome;
-        counts.add(&if is_short { Answer::from(outcome).name() } else { rust.name() });
-    }
-    Ok(())
+/// A list of inputs, by their places.
+pub struct Corpus<'a, I> {
+    pub what: &'a str,
+    pub count: u64,
+    pub made: &'a (dyn Fn(u64) -> I + Sync),
+    pub rooms: Rooms,
+    /// Whether the port's slices can hold an input.
+    pub fits: fn(&I) -> bool,
 }
 
-/// Compares so many inputs; those that are none are too wide for the slices.
-pub fn inputs<I: Input>(
-    (what, run, count): (&str, Run, u64),
-    mut counts: Counts,
-    made: impl Fn(u64) -> Option<I> + Sync,
-) -> Result<u64, String> {
+/// Compares a corpus: the counts, or the first difference with the smallest input that has it.
+pub fn corpus<I: Input>(run: Run, corpus: &Corpus<I>) -> Result<Counts, String> {
     let wide = AtomicU64::new(0);
-    let all = run.each(
-        count,
-        || Desk::of::<I>(run),
+    let counts = run.each(
+        corpus.count,
+        || Single::new(run, corpus.fits),
         |case, desk, counts| {
-            let Some(input) = made(case) else {
+            let input = (corpus.made)(case);
+            if !(corpus.fits)(&input) {
                 wide.fetch_add(1, Relaxed);
                 return Ok(());
-            };
-            desk.noise.begin(case);
-            compared(&input, &mut random_of(run, case), desk, counts)
-                .map_err(|why| format!("{what}, case {case}:\n{}\n{why}", input.shown()))
+            }
+            let found = desk.compared(input, case, corpus.rooms, counts);
+            found.map_err(|found| format!("{}, case {case}, {found}", corpus.what))
         },
     )?;
-    counts.add_all(all);
     let wide = wide.into_inner();
-    let agree = count - wide;
-    println!("{what}: {agree} agree by {} calls", counts.all());
-    if wide > 0 {
-        println!("{wide} are too wide for the slices");
-    }
-    println!("{counts}");
-    Ok(agree)
+    let left = if wide > 0 { format!(", {wide} do not fit the slices") } else { String::new() };
+    let (what, agree) = (corpus.what, corpus.count - wide);
+    println!("{what}: {agree} agree by {} calls{left}", counts.all());
+    Ok(counts)
 }

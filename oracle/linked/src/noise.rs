@@ -34,6 +34,15 @@ impl Noise {
         self.at = (case % POOL as u64) as usize * STEP % (POOL - LONGEST);
     }
 
+    /// Behind which place the next filling begins.
+    pub fn place(&self) -> usize {
+        self.at
+    }
+
+    pub fn set_place(&mut self, place: usize) {
+        self.at = place;
+    }
+
     /// Where the next filling begins.
     pub fn next_place(&mut self) -> usize {
         self.at = (self.at + STEP) % (POOL - LONGEST);

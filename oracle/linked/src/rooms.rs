@@ -28,18 +28,48 @@ impl Room {
             None => answer.clone().within(self.out),
         }
     }
+
+    /// The room for an input that writes other bytes, or none: as much longer or shorter than these as it was.
+    pub fn for_bytes(&self, old: Option<usize>, new: Option<usize>) -> Self {
+        let out = match (old, new) {
+            (Some(old), Some(new)) => (self.out + new).saturating_sub(old),
+            _ => self.out,
+        };
+        Self { works: self.works.clone(), out }
+    }
 }
 
-/// The rooms for an input that has a record of so many bytes, or none: always one that has room for its answer; now and then
-/// one that is too short for the record, and one with short work slices.
-pub fn rooms(random: &mut Random, sizes: &[usize], record: Option<usize>) -> Vec<Room> {
+/// Every room at an edge for such an input: just enough, one byte too few or more, none; each work slice an element too short or
+/// longer, each empty, all empty, all longer.
+pub fn edges(_: &mut Random, sizes: &[usize], record: Option<usize>) -> Vec<Room> {
+    let bytes = record.unwrap_or(0);
+    let with = |works: Vec<usize>, out| Room { works, out };
+    let outs =
+        [bytes, bytes.saturating_sub(1), bytes + 1, bytes.saturating_sub(40), 0, RECORD_BYTES];
+    let mut rooms: Vec<Room> = outs.iter().map(|out| with(sizes.to_vec(), *out)).collect();
+    for slice in 0..sizes.len() {
+        for count in [sizes[slice] - 1, 0, sizes[slice] + 1] {
+            let mut works = sizes.to_vec();
+            works[slice] = count;
+            rooms.push(with(works, bytes));
+        }
+    }
+    rooms.push(with(vec![0; sizes.len()], 0));
+    rooms.push(with(sizes.iter().map(|size| size - 1).collect(), bytes));
+    rooms.push(with(sizes.iter().map(|size| size + LONGER).collect(), bytes + LONGER));
+    rooms
+}
+
+/// The rooms for an input that writes so many bytes, or none: always one that has room for its answer; now and then one that is too
+/// short for the bytes, and one with short work slices.
+pub fn some(random: &mut Random, sizes: &[usize], record: Option<usize>) -> Vec<Room> {
     let mut rooms = vec![Room { works: works(random, sizes), out: enough(random, record) }];
-    if let Some(bytes) = record
+    if let Some(bytes @ 1..) = record
         && random.once_in(8)
     {
         rooms.push(Room { works: works(random, sizes), out: too_few(random, bytes) });
     }
-    if random.once_in(16) {
+    if !sizes.is_empty() && random.once_in(16) {
         let works = works(random, sizes);
         let works = shortened(random, works, sizes);
         rooms.push(Room { works, out: enough(random, record) });
@@ -69,7 +99,7 @@ fn shortened(random: &mut Random, mut works: Vec<usize>, sizes: &[usize]) -> Vec
 }
 
 /// Bytes for a record, exactly as many or more; any number where there is none.
-pub fn enough(random: &mut Random, record: Option<usize>) -> usize {
+fn enough(random: &mut Random, record: Option<usize>) -> usize {
     match (random.below(8), record) {
         (0, record) => record.unwrap_or(0),
         (1, record) => record.unwrap_or(0).max(RECORD_BYTES),
@@ -79,7 +109,7 @@ pub fn enough(random: &mut Random, record: Option<usize>) -> usize {
 }
 
 /// Bytes that a record does not fit in: mostly one too few.
-pub fn too_few(random: &mut Random, bytes: usize) -> usize {
+fn too_few(random: &mut Random, bytes: usize) -> usize {
     match random.below(4) {
         0 => random.below(bytes),
         1 => random.below(bytes.min(48)),

@@ -13,7 +13,7 @@ const BOXES: [char; 33] = [
 ];
 
 /// Bytes that are not UTF-8, or not any more where they stand.
-const BAD_BYTES: [&[u8]; 12] = [
+pub const BAD_BYTES: [&[u8]; 12] = [
     &[0x80],
     &[0xC0, 0xAF],
     &[0xC1, 0x81],

@@ -15,6 +15,7 @@ pub mod shape;
 pub mod sheets;
 pub mod splits;
 pub mod texts;
+pub mod uneven;
 
 use crate::lent::Lent;
 use crate::line::listed;
@@ -37,6 +38,8 @@ pub enum Kind {
     HandLines,
     ClausePlanes,
     InProse,
+    Aimed,
+    LimitPlanes,
 }
 
 impl Kind {
@@ -56,6 +59,8 @@ impl Kind {
             "hand-lines" => Some(Kind::HandLines),
             "clause-planes" => Some(Kind::ClausePlanes),
             "in-prose" => Some(Kind::InProse),
+            "aimed" => Some(Kind::Aimed),
+            "limit-planes" => Some(Kind::LimitPlanes),
             _ => None,
         }
     }
@@ -86,6 +91,8 @@ pub fn generate(kind: Kind, seed: u64, case: u64) -> Vec<u8> {
         Kind::HandLines => hand_line(case as usize),
         Kind::ClausePlanes => (clause_planes::plane(&mut random).line() + "\n").into_bytes(),
         Kind::InProse => sheet(sheets::in_prose(&mut random)),
+        Kind::Aimed => sheet(aimed_sheet(seed, case)),
+        Kind::LimitPlanes => (limit_plane(seed, case).line() + "\n").into_bytes(),
     }
 }
 
@@ -103,6 +110,17 @@ pub fn split_text(kind: Kind, seed: u64, case: u64) -> Vec<u8> {
 /// The bytes of a sheet in much prose, as `generate` makes it.
 pub fn sheet_in_prose(seed: u64, case: u64) -> Vec<u8> {
     sheets::in_prose(&mut Random::of(&[Kind::InProse.source() as u64, seed, case]))
+}
+
+/// A sheet that aims at rare refusals, as `generate` makes it.
+pub fn aimed_sheet(seed: u64, case: u64) -> Vec<u8> {
+    let random = &mut Random::of(&[Kind::Aimed.source() as u64, seed, case]);
+    if random.chance(10) { edges::sheet(random, true) } else { uneven::sheet(random) }
+}
+
+/// A lent plane at a limit or one over it, as `generate` makes it.
+pub fn limit_plane(seed: u64, case: u64) -> Lent {
+    planes::at_limits(&mut Random::of(&[Kind::LimitPlanes.source() as u64, seed, case]))
 }
 
 /// A lent plane, as `generate` makes it.

@@ -317,13 +317,21 @@ fn set(list: &mut [u64], place: usize, value: u64) {
 }
 
 /// A plane at one of the limits, or one over it.
-fn at_limits(random: &mut Random) -> Lent {
+pub fn at_limits(random: &mut Random) -> Lent {
     let more = random.below(2);
-    let cut = random.below(4);
-    let rows = if cut == 0 { PLANE_ROWS + more } else { random.between(4, PLANE_ROWS) };
-    let cells = if cut == 1 { PLANE_CELLS + more } else { random.between(4, PLANE_CELLS) };
-    let regions = if cut == 2 { REGIONS + more } else { random.between(PLANE_ROWS + 2, REGIONS) };
-    let bytes = if cut == 3 { TEXT_BYTES + more } else { random.between(200, 3_000) };
+    let limit = random.below(LIMITS);
+    at_limit(random, limit, more)
+}
+
+/// The limits of a plane: rows, cells in a row, regions, bytes.
+pub const LIMITS: usize = 4;
+
+/// A plane at a limit, or so many over it.
+pub fn at_limit(random: &mut Random, limit: usize, more: usize) -> Lent {
+    let rows = if limit == 0 { PLANE_ROWS + more } else { random.between(4, PLANE_ROWS) };
+    let cells = if limit == 1 { PLANE_CELLS + more } else { random.between(4, PLANE_CELLS) };
+    let regions = if limit == 2 { REGIONS + more } else { random.between(PLANE_ROWS + 2, REGIONS) };
+    let bytes = if limit == 3 { TEXT_BYTES + more } else { random.between(200, 3_000) };
     let mut made = large(random, rows, cells, regions, bytes);
     if random.chance(50) {
         turn(&mut made);
