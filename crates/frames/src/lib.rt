@@ -74,22 +74,12 @@ fn along_region(d: Direction, layer: &[u32], w: usize, h: usize, x: usize, y: us
     requires { ⌜ Place w h x y (length (now layer)) ⌝ }
     ensures { λ r. ⌜ stepsIn r ≡ alongOf Region d (canvas w h (now (layer .entry))) w h x y ⌝ }
 {
-    go_toward(
-        d,
-        layer,
-        w,
-        h,
-        x,
-        y,
-        &CORNERS_TOP_RIGHT,
-        &CORNERS_BOTTOM_RIGHT,
-        &CORNERS_BOTTOM_LEFT,
-        &CORNERS_TOP_LEFT,
-        &SIDES_TOP,
-        &SIDES_RIGHT,
-        &SIDES_BOTTOM,
-        &SIDES_LEFT,
-    )
+    match d {
+        Direction::Right => walks::go(d, layer, w, h, x, y, &CORNERS_TOP_RIGHT, &SIDES_TOP),
+        Direction::Down => walks::go(d, layer, w, h, x, y, &CORNERS_BOTTOM_RIGHT, &SIDES_RIGHT),
+        Direction::Left => walks::go(d, layer, w, h, x, y, &CORNERS_BOTTOM_LEFT, &SIDES_BOTTOM),
+        Direction::Up => walks::go(d, layer, w, h, x, y, &CORNERS_TOP_LEFT, &SIDES_LEFT),
+    }
 }
 
 // Along the frames of GRID.
@@ -97,22 +87,12 @@ fn along_rectangle(d: Direction, layer: &[u32], w: usize, h: usize, x: usize, y:
     requires { ⌜ Place w h x y (length (now layer)) ⌝ }
     ensures { λ r. ⌜ stepsIn r ≡ alongOf Rectangle d (canvas w h (now (layer .entry))) w h x y ⌝ }
 {
-    go_toward(
-        d,
-        layer,
-        w,
-        h,
-        x,
-        y,
-        &GRID_TOP_RIGHT,
-        &GRID_BOTTOM_RIGHT,
-        &GRID_BOTTOM_LEFT,
-        &GRID_TOP_LEFT,
-        &ROW_SIDE,
-        &COLUMN_SIDE,
-        &ROW_SIDE,
-        &COLUMN_SIDE,
-    )
+    match d {
+        Direction::Right => walks::go(d, layer, w, h, x, y, &GRID_TOP_RIGHT, &ROW_SIDE),
+        Direction::Down => walks::go(d, layer, w, h, x, y, &GRID_BOTTOM_RIGHT, &COLUMN_SIDE),
+        Direction::Left => walks::go(d, layer, w, h, x, y, &GRID_BOTTOM_LEFT, &ROW_SIDE),
+        Direction::Up => walks::go(d, layer, w, h, x, y, &GRID_TOP_LEFT, &COLUMN_SIDE),
+    }
 }
 
 // Along the box of the name.
