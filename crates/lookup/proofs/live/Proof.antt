@@ -1,0 +1,54 @@
+-- `lookup::live` meets its contract.
+use mathlib.Core.Path.{ap, subst}
+use Prim.Native.Nat.{ℕ, _-_, _≤_}
+use native.Mathlib.Omega.{arith}
+use Rattle.model.specs.declared.Rect.{Rect}
+use Rattle.lookup.specs.Numbers.{Above}
+use Rattle.lookup.proofs.FirstLaws.{above-next}
+use borrow.Author.Needs.{needs}
+use Rattle.lookup.proofs.live.Statement.{statement}
+use Rattle.lookup.proofs.live.Tie as tie
+
+abbrev Inv-loop : tie.InvT-loop
+Inv-loop nums count from row at₀ at = (from ≤ at) × (at ≤ count) × Above nums at row
+
+abbrev μ-loop : tie.MeasureT-loop
+μ-loop nums count from row at₀ at = count - at
+
+loop-holds : tie.Need-loop-holds Inv-loop μ-loop
+loop-holds c = (omega arith, c .before .pre .0, c .before .pre .2)
+
+rect-at-requires : tie.Need-rect-at-requires Inv-loop μ-loop
+rect-at-requires c κs = search needs
+
+returns : tie.Need-returns Inv-loop μ-loop
+returns c = c .before .before .before .loop .inv
+
+add-at : tie.Need-add-at Inv-loop μ-loop
+add-at c = search needs
+
+loop-less : tie.Need-loop-less Inv-loop μ-loop
+loop-less c = search needs
+
+loop-again : tie.Need-loop-again Inv-loop μ-loop
+loop-again c =
+    let t = c .before .before in
+    let l = t .before .loop .inv in
+    (omega (arith, l .0), omega (arith, t .loop-test .taken), above-next _ _ _ (l .2) (subst (λ (r : Rect). r .bottom ≤ t .before .before .args .row) (c .before .rect-at .ensures) (c .if1 .left)))
+
+returns-2 : tie.Need-returns-2 Inv-loop μ-loop
+returns-2 c = c .before .loop .inv
+
+pub live-spec : {M : Type 1} → statement M
+live-spec =
+    tie.close
+    (tie.spec
+    Inv-loop
+    μ-loop
+    loop-holds
+    rect-at-requires
+    returns
+    add-at
+    loop-less
+    loop-again
+    returns-2)
