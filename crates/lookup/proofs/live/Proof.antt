@@ -1,6 +1,6 @@
 -- `lookup::live` meets its contract.
-use mathlib.Core.Path.{ap, subst}
-use Prim.Native.Nat.{ℕ, _-_, _≤_}
+use mathlib.Core.Path.{subst}
+use Prim.Native.Nat.{_-_, _≤_}
 use native.Mathlib.Omega.{arith}
 use Rattle.model.specs.declared.Rect.{Rect}
 use Rattle.lookup.specs.Numbers.{Above}
@@ -22,7 +22,7 @@ rect-at-requires : tie.Need-rect-at-requires Inv-loop μ-loop
 rect-at-requires c κs = search needs
 
 returns : tie.Need-returns Inv-loop μ-loop
-returns c = c .before .before .before .loop .inv
+returns c = c .before .before .before .before .loop .inv
 
 add-at : tie.Need-add-at Inv-loop μ-loop
 add-at c = search needs
@@ -32,9 +32,11 @@ loop-less c = search needs
 
 loop-again : tie.Need-loop-again Inv-loop μ-loop
 loop-again c =
-    let t = c .before .before in
-    let l = t .before .loop .inv in
-    (omega (arith, l .0), omega (arith, t .loop-test .taken), above-next _ _ _ (l .2) (subst (λ (r : Rect). r .bottom ≤ t .before .before .args .row) (c .before .rect-at .ensures) (c .if1 .left)))
+    let t = c .before .before .before in
+    let l = t .before .loop in
+    let a = t .before .before .before .args in
+    let e = subst (λ (r : Rect). r .bottom ≤ a .row) (c .before .before .rect-at .ensures) (c .if1 .left) in
+    (omega (arith, l .inv .0), omega (arith, t .loop-test .taken), above-next (a .nums .now) (l .at) (a .row) (l .inv .2) e)
 
 returns-2 : tie.Need-returns-2 Inv-loop μ-loop
 returns-2 c = c .before .loop .inv
