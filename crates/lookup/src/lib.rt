@@ -14,18 +14,25 @@ ghost use Rattle.walks.specs.Kinds.{grid};
 ghost use Rattle.lookup.specs.Lookup.{firstOf, Numbered};
 ghost use Rattle.lookup.specs.Numbers.{Above, NextCorner, numberIn, Seen, Stored, Without};
 
+// The rect of four numbers.
+fn rect_of(left: u32, top: u32, right: u32, bottom: u32) -> Rect
+    ensures { λ r. ⌜ r ≡ record { left = left; top = top; right = right; bottom = bottom } ⌝ }
+{
+    Rect {
+        left: left as usize,
+        top: top as usize,
+        right: right as usize,
+        bottom: bottom as usize,
+    }
+}
+
 // Rect k of a slice of numbers.
 fn rect_at(nums: &[u32], k: usize) -> Rect
     requires { ⌜ k * 4 + 4 ≤ length (now nums) ⌝ }
     ensures { λ r. ⌜ r ≡ rectAt (now (nums .entry)) k ⌝ }
 {
     let p = k * 4;
-    Rect {
-        left: nums[p] as usize,
-        top: nums[p + 1] as usize,
-        right: nums[p + 2] as usize,
-        bottom: nums[p + 3] as usize,
-    }
+    rect_of(nums[p], nums[p + 1], nums[p + 2], nums[p + 3])
 }
 
 // The first `count` rects, in row order.
