@@ -1,28 +1,13 @@
 -- A run of rects that is filled, and searched for the first that contains a frame.
-use mathlib.Core.Path.{_≡_, refl, sym, ap, _∙_, subst}
-use mathlib.Core.Bool.{Bool, true, false, _&&_}
-use mathlib.Core.List.{List, [], _∷_, _++_, append-assoc}
+use mathlib.Core.{Path._≡_, Path.refl, Path.sym, Path.ap, Path._∙_, Path.subst, Bool.Bool, Bool.true, Bool.false, Bool._&&_, List.List, List.[], List._∷_, List._++_, List.append-assoc}
 use Prim.Native.Nat.{ℕ, zero, suc, _+_, _-_, _≤_, _<_}
-use native.Mathlib.Nat.{sub-zero, zero-add, add-zero}
-use native.Mathlib.Numerals.{add-one}
-use native.Mathlib.Omega.{arith}
-use lib.Dec.{ltb, leb}
-use lib.ListN.{length, getD, set, take, drop, length-append, length-drop}
-use lib.Seq.{drop-cons, set-append-seam, take-at, getD-take}
+use native.Mathlib.{Nat.sub-zero, Nat.zero-add, Nat.add-zero, Numerals.add-one, Omega.arith}
+use lib.{Dec.ltb, Dec.leb, ListN.length, ListN.getD, ListN.set, ListN.take, ListN.drop, ListN.length-append, ListN.length-drop, Seq.drop-cons, Seq.set-append-seam, Seq.take-at, Seq.getD-take}
 use borrow.Author.Tests.{lt-ltb, le-ltb, ltb-true, ltb-false, leb-true}
-use Rattle.lists.specs.Answer.{ok, refused}
-use Rattle.lists.specs.Choose.{choose}
-use Rattle.lists.specs.Run.{run}
-use Rattle.lists.proofs.AnswerLaws.{refused-ok}
-use Rattle.lists.proofs.RunLaws.{length-run, build-next, getD-build}
-use Rattle.lists.proofs.Tests.{by-flag, both}
-use Rattle.model.specs.Geometry.{containsOf}
-use Rattle.model.specs.Refusals.{Reading}
-use Rattle.model.specs.declared.Rect.{Rect}
-use Rattle.model.specs.declared.Refusal.the-variants.{RegionNotFound}
+use Rattle.lists.{specs.Answer.ok, specs.Answer.refused, specs.Choose.choose, specs.Run.run, proofs.AnswerLaws.refused-ok, proofs.RunLaws.length-run, proofs.RunLaws.build-next, proofs.RunLaws.getD-build, proofs.Tests.by-flag, proofs.Tests.both}
+use Rattle.model.{specs.Geometry.containsOf, specs.Refusals.Reading, specs.declared.Rect.Rect, specs.declared.Refusal.the-variants.RegionNotFound}
 use Rattle.regions.specs.Rects.{rectAt, rectsOf}
-use Rattle.lookup.specs.Lookup.{regionFrom, regionOf, firstOf}
-use Rattle.lookup.specs.Numbers.{none, Above, Without}
+use Rattle.lookup.specs.{Lookup.regionFrom, Lookup.regionOf, Lookup.firstOf, Numbers.none, Numbers.Above, Numbers.Without}
 
 -- the region of a frame, by the number of the first rect that contains it
 abbrev byNumber : Rect → ℕ → ℕ → ℕ → Reading ℕ

@@ -1,23 +1,12 @@
 -- Corners that are sought, and frames that are numbered one after the other.
-use mathlib.Core.Path.{_≡_, sym, ap, _∙_, subst}
-use mathlib.Core.Bool.{true, false}
-use mathlib.Core.List.{List}
+use mathlib.Core.{Path._≡_, Path.sym, Path.ap, Path._∙_, Path.subst, Bool.true, Bool.false, List.List}
 use Prim.Native.Nat.{ℕ, _+_, _*_, _/_, _%_, _≤_, _<_, _^_}
-use native.Mathlib.Nat.{le-trans, le-div-iff-mul-le, div-mul-le-self}
-use native.Mathlib.Omega.{arith}
-use lib.Dec.{ltb}
-use lib.ListN.{length, getD, set}
-use lib.Seq.{getD-set-same, getD-set-other}
+use native.Mathlib.{Nat.le-trans, Nat.le-div-iff-mul-le, Nat.div-mul-le-self, Omega.arith}
+use lib.{Dec.ltb, ListN.length, ListN.getD, ListN.set, Seq.getD-set-same, Seq.getD-set-other}
 use borrow.Author.Tests.{ltb-true, ltb-false}
-use Rattle.lists.specs.Picture.{canvas, at}
-use Rattle.lists.proofs.PlaceLaws.{columns, at-canvas}
-use Rattle.lists.proofs.RunLaws.{length-run}
-use Rattle.lists.proofs.Tests.{by-flag, true-false}
-use Rattle.regions.specs.Rects.{rectAt, rectsOf}
-use Rattle.regions.specs.Regions.{Finder, isCorner}
-use Rattle.lookup.specs.Lookup.{firstOf, numberOf, Numbered}
-use Rattle.lookup.specs.Numbers.{Above, NextCorner, numberIn, Seen, Stored}
-use Rattle.lookup.specs.declared.Sought.{Sought}
+use Rattle.lists.{specs.Picture.canvas, specs.Picture.at, proofs.PlaceLaws.columns, proofs.PlaceLaws.at-canvas, proofs.RunLaws.length-run, proofs.Tests.by-flag, proofs.Tests.true-false}
+use Rattle.regions.{specs.Rects.rectAt, specs.Rects.rectsOf, specs.Regions.Finder, specs.Regions.isCorner}
+use Rattle.lookup.specs.{Lookup.firstOf, Lookup.numberOf, Lookup.Numbered, Numbers.Above, Numbers.NextCorner, Numbers.numberIn, Numbers.Seen, Numbers.Stored, declared.Sought.Sought}
 
 pub corner-start : (d : List ℕ) (size i : ℕ) → i ≤ size → NextCorner d size i i
 corner-start d size i h = record { from = omega arith; to = h; clear = λ j a b. absurd (omega arith) }

@@ -4,9 +4,8 @@ use Prim.Native.Nat.{_-_, _≤_}
 use native.Mathlib.Omega.{arith}
 use Rattle.model.specs.declared.Rect.{Rect}
 use Rattle.lookup.specs.Numbers.{Above}
-use Rattle.lookup.proofs.FirstLaws.{above-next}
+use Rattle.lookup.proofs.{FirstLaws.above-next, live.Statement.statement}
 use borrow.Author.Needs.{needs}
-use Rattle.lookup.proofs.live.Statement.{statement}
 use Rattle.lookup.proofs.live.Tie as tie
 
 abbrev Inv-loop : tie.InvT-loop

@@ -2,9 +2,8 @@
 use mathlib.Core.Path.{sym, _∙_}
 use Prim.Native.Nat.{_-_}
 use Rattle.lookup.specs.Numbers.{NextCorner}
-use Rattle.lookup.proofs.NumberLaws.{corner-start, corner-more, corner-end}
+use Rattle.lookup.proofs.{NumberLaws.corner-start, NumberLaws.corner-more, NumberLaws.corner-end, next_corner.Statement.statement}
 use borrow.Author.Needs.{needs}
-use Rattle.lookup.proofs.next_corner.Statement.{statement}
 use Rattle.lookup.proofs.next_corner.Tie as tie
 
 abbrev Inv-loop : tie.InvT-loop

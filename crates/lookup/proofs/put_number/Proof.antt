@@ -3,9 +3,8 @@ use mathlib.Core.Path.{refl, ap}
 use lib.ListN.{set}
 use Prim.Native.Nat.{ℕ}
 use native.Mathlib.Omega.{arith}
-use Rattle.lookup.proofs.NumberLaws.{number-small}
+use Rattle.lookup.proofs.{NumberLaws.number-small, put_number.Statement.statement}
 use borrow.Author.Needs.{needs}
-use Rattle.lookup.proofs.put_number.Statement.{statement}
 use Rattle.lookup.proofs.put_number.Tie as tie
 
 returns : tie.Need-returns

@@ -1,18 +1,12 @@
 -- `lookup::seek` meets its contract.
 use mathlib.Core.Path.{_≡_, refl, sym, ap, _∙_}
 use Prim.Native.Nat.{ℕ, _/_, _%_, _<_}
-use native.Mathlib.Nat.{div-le-self}
-use native.Mathlib.Omega.{arith}
+use native.Mathlib.{Nat.div-le-self, Omega.arith}
 use lib.ListN.{length}
-use Rattle.lists.specs.Answer.{ok}
-use Rattle.lists.specs.Picture.{Picture, canvas}
-use Rattle.lists.proofs.PlaceLaws.{columns}
+use Rattle.lists.{specs.Answer.ok, specs.Picture.Picture, specs.Picture.canvas, proofs.PlaceLaws.columns}
 use Rattle.regions.proofs.RegionLaws.{place-of}
 use Rattle.model.specs.declared.Rect.{Rect}
-use Rattle.walks.specs.Frame.{Kind, frameOf, framedIn}
-use Rattle.walks.proofs.FrameLaws.{accepted}
-use Rattle.walks.specs.Kinds.{grid}
-use Rattle.walks.specs.declared.Framed.{Framed}
+use Rattle.walks.{specs.Frame.Kind, specs.Frame.frameOf, specs.Frame.framedIn, proofs.FrameLaws.accepted, specs.Kinds.grid, specs.declared.Framed.Framed}
 use Rattle.lookup.specs.Lookup.{firstIn}
 use Rattle.lookup.proofs.seek.Statement.{statement}
 use Rattle.lookup.proofs.seek.Tie as tie
