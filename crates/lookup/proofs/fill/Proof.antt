@@ -10,7 +10,7 @@ use package.mir.Val.{Val, vunit, vint, vptr}
 use base.Logic.{SProp, ent, snd∗, exE, id⊢}
 use base.Fml.{Lft, GName, Share, Fml, ftrue, fat, froom, fdies, flft, fobs, fauth, fbor, fobor}
 use prog.{Memory.Memory, Routine.Routine}
-use prog.Wp.{Heap, Out, Env, afterSeq, afterBlock, afterTurn, Calls, Loops, Wp, atReturn, WpFn, Tables}
+use prog.Wp.{Heap, Out, Env, afterSeq, afterBlock, afterTurn, Wp, atReturn, WpFn, Tables}
 use ghost.Atoms.{Atoms, sem}
 use contract.{Monad.Fun, Monad.fact, Running.givenOf, Running.tables, Running.tablesOf, Lifetimes.AllOutlive}
 use types.Kit.{Given, Item, ‵, raw, _⊛_, ⋆, Sq, runs, anyQ, atRet, some, later, _$_, _∵_, !, qed, by, move, drop, use1, use2, split, join, pick, rewrite, fsplit, fjoin, feqI, suffices, frame, await, done}
@@ -21,7 +21,7 @@ use sound.WpLaws.{fmOf, WpFn-mono}
 use denote.Slice.{sliceTy, sliceVal, ShrSlice, MutSlice, Room, heres, codedHoleys, at-slice, slice-vals, shr-slice-tells, mut-slice-tells, shr-slice-copy}
 use denote.Struct.Laws as LL
 use denote.Triple.{Statement.Contract, Statement.Triple, Call.calls-at, Entry.onEntry, Spec.Meets, Spec.tripleOf, Table.entered, Table.cited, Clauses.ensured, Clauses.lasts}
-use denote.Triple.Walked.{says, needs, Stays, stay-slice, stay-none-slice, stay-none, walkOf, goes-slice, goes-none-slice, goes-none, Walks, ends-at, walked, walk-meets}
+use denote.Triple.Walked.{says, needs, Stays, stay-slice, stay-none-slice, stay-none, walkOf, goes-slice, goes-none-slice, goes-none, ends-at, walked, walk-meets}
 use Rattle.model.specs.declared.Rect.{Rect}
 use Rattle.regions.specs.Rects.{rectAt}
 use Rattle.lookup.specs.Numbers.{none}
@@ -100,12 +100,6 @@ module _ {M : Type 1} (𝓤 : URA M) (H : Heap 𝓤) (A : Atoms 𝓤) (W : Given
   Nearer-wf = InvImage·wf (λ (i : Upto). n - i .0) (Nat·lt-wfRel .wf)
 
   module _ (𝓣 : Tables 𝓤 H) (known : Triple 𝓤 (𝓣 .C inner.Symbol.name) (Callee 𝓤 H A at-mem run)) (l₀ l₁ l₂ l₃ l₄ l₅ l₆ l₇ l₈ : ℕ) where
-    abbrev C : Calls 𝓤 H
-    C = 𝓣 .C
-
-    abbrev Λ : Loops 𝓤 H
-    Λ = 𝓣 .Λ
-
     abbrev τ₁ : Ty
     τ₁ = sliceTy (tyRef (named 0) mut (pointee (T.the-row .written)))
 
@@ -124,7 +118,7 @@ module _ {M : Type 1} (𝓤 : URA M) (H : Heap 𝓤) (A : Atoms 𝓤) (W : Given
         ∷ ‵ (fat fullShare τ₂ l₂ 0 v) ∷ ‵ (fdies τ₂ l₂) ∷ ‵ (fat fullShare τ₁ l₁ 0 (sliceVal (b, o) (length ys))) ∷ ‵ (fdies τ₁ l₁) ∷ ‵ (froom tyUnit l₀ 0) ∷ ‵ (fdies tyUnit l₀) ∷ []
 
     abbrev Turned : Upto → Out → SProp 𝓤
-    Turned i = afterTurn 𝓤 H (Below 𝓤 H A Nearer Here i) (afterBlock 𝓤 H (afterSeq 𝓤 H (Wp 𝓤 H C Λ En mir.t-3 (atReturn 𝓤 H En Post)) (atReturn 𝓤 H En Post)))
+    Turned i = afterTurn 𝓤 H (Below 𝓤 H A Nearer Here i) (afterBlock 𝓤 H (afterSeq 𝓤 H (Wp 𝓤 H (𝓣 .C) (𝓣 .Λ) En mir.t-3 (atReturn 𝓤 H En Post)) (atReturn 𝓤 H En Post)))
 
     fits : (j : Upto) → j .0 < 2 ^ 64
     fits j = lt-of-le-of-lt (j .1) n-fits
@@ -132,7 +126,7 @@ module _ {M : Type 1} (𝓤 : URA M) (H : Heap 𝓤) (A : Atoms 𝓤) (W : Given
     long : (j : Upto) → length (to-i (j .0)) ≡ length ys
     long j = filled-length ys (s .now) (j .0) (le-trans (j .1) (enough .0))
 
-    turns : (i : Upto) → Sq W (Here i) (runs C Λ En mir.turn-1 (anyQ (Turned i)))
+    turns : (i : Upto) → Sq W (Here i) (runs (𝓣 .C) (𝓣 .Λ) En mir.turn-1 (anyQ (Turned i)))
     unfolding afterTurn
     turns i =
         assigns ! (bin ! (load ! (from ! (stop !)) (look ! 14 refl)) (load ! (from ! (stop !)) (look ! 16 refl)) tt) (from ! (stop !)) (init ! 10 refl (tt, tt)) $
@@ -141,7 +135,7 @@ module _ {M : Type 1} (𝓤 : URA M) (H : Heap 𝓤) (A : Atoms 𝓤) (W : Given
         let l : i .0 < length ys = lt-of-lt-of-le (ltb→lt (i .0) n less) (enough .0) in
         let l′ : i .0 < length (to-i (i .0)) = subst (λ (m : ℕ). i .0 < m) (sym (long i)) l in
         let next : Upto = (i .0 + 1, add-one-le (ltb→lt (i .0) n less)) in
-        skips ! $ exec ! C Λ En more (anyQ (Turned i)) $
+        skips ! $ exec ! (𝓣 .C) (𝓣 .Λ) En more (anyQ (Turned i)) $
         -- `rect_at` is called
         move ! (5 ∷ []) $ use1 W (‵ S ⊛ ‵ S) (shr-slice-copy 𝓤 H A W (named 1) κ′ u32 .twice s (v ∷ [])) $ split ! $ move ! (6 ∷ 0 ∷ []) $
         use2 W (raw (Callee 𝓤 H A at-mem run .pre (to (i .0)))) (asked (i .0) (fits i) (ltb→lt (i .0) n less)) $
@@ -162,7 +156,7 @@ module _ {M : Type 1} (𝓤 : URA M) (H : Heap 𝓤) (A : Atoms 𝓤) (W : Given
         move ! (0 ∷ 3 ∷ 4 ∷ 5 ∷ []) $
         assigns-last ! (bin ! (load ! (from ! (stop !)) (look ! 14 refl)) (lit ! tt) (record { fits = fits next })) (from ! (stop !)) (store ! 14 refl (tt, record { fits = fits next })) $
         forget ! 6 refl $ forget ! 8 refl $ forget ! 10 refl $ forget ! 12 refl $ again ! Nearer Here i next (add-one-dec n (i .0) (ltb→lt (i .0) n less))))))))
-        (λ over. jumps ! $ exec ! C Λ En mir.t-3 (atRet En Post) $
+        (λ over. jumps ! $ exec ! (𝓣 .C) (𝓣 .Λ) En mir.t-3 (atRet En Post) $
         assigns ! (of-opd ! (unit-lit !)) (from ! (stop !)) (init ! 22 refl (tt, tt)) $
         closes-slice ! tt T.the-row ys (to-i (i .0)) (long i) b o $
         returns ! (look ! 21 refl) $ forget ! 9 refl $ forget ! 13 refl $ forget ! 15 refl $ forget ! 17 refl $ forget ! 19 refl $ forget ! 21 refl $
@@ -170,7 +164,7 @@ module _ {M : Type 1} (𝓤 : URA M) (H : Heap 𝓤) (A : Atoms 𝓤) (W : Given
         move ! (9 ∷ 10 ∷ []) $ free1 ! $ move ! (7 ∷ 8 ∷ []) $ free1 ! $ move ! (5 ∷ 6 ∷ []) $ free1 ! $ free0 ! $
         by ! (exits (to-i (i .0)) (ap to-i (le-antisymm (i .1) (nltb→le (i .0) n over))) (long i)))
 
-    looped : Sq W (Here (0, zero-le)) (runs C Λ En mir.t-2 (atRet En Post))
+    looped : Sq W (Here (0, zero-le)) (runs (𝓣 .C) (𝓣 .Λ) En mir.t-2 (atRet En Post))
     looped = first ! $ blocks ! $ loops ! 𝓣 Nearer Nearer-wf Here turns (0, zero-le)
 
   module _ (𝓣 : Tables 𝓤 H) (known : Triple 𝓤 (𝓣 .C inner.Symbol.name) (Callee 𝓤 H A at-mem run)) where
@@ -185,17 +179,14 @@ module _ {M : Type 1} (𝓤 : URA M) (H : Heap 𝓤) (A : Atoms 𝓤) (W : Given
         rewrite ! 0 (λ (zs : List Rect). ‵ (row T.the-row fullShare zs b o)) (sym (filled-none ys (s .now))) refl $
         looped 𝓣 known l₀ l₁ l₂ l₃ l₄ l₅ l₆ l₇ l₈)))))))))
 
-module _ {M : Type 1} (𝓤 : URA M) (H : Heap 𝓤) (A : Atoms 𝓤) (W : Given 𝓤 H A) (at-mem : Memory → SProp 𝓤) (run : Routine → Fun 𝓤) where
-  fn-walks : (𝓣 : Tables 𝓤 H) → Triple 𝓤 (𝓣 .C inner.Symbol.name) (Callee 𝓤 H A at-mem run) → Walks 𝓤 H A fn.ended stayed (WpFn 𝓤 H (𝓣 .C) (𝓣 .Λ) code.function) (fn.clauses 𝓤 H A at-mem run)
-  fn-walks 𝓣 known = walked 𝓤 H A fn.ended stayed (fn.clauses 𝓤 H A at-mem run) (WpFn 𝓤 H (𝓣 .C) (𝓣 .Λ) code.function) (λ κs. (slice-vals, (slice-vals, (uint-vals w64, tt)))) (λ κs. (mut-slice-tells (named 0) (κs .0) T.the-row, (shr-slice-tells (named 1) (κs .1 .0) u32, (uint-tells w64, tt))))
-      (λ κs qs bounds a g are. needs 𝓤 ((a .1 .1 .0 ≤ length (a .0 .now)) × (a .1 .1 .0 * 4 ≤ length (a .1 .0 .now))) _ (λ enough.
-      walk 𝓤 H A W at-mem run (κs .0) (κs .1 .0) bounds (qs .0) (qs .1 .0) (a .0 .ptr .0) (a .0 .ptr .1) (a .0 .name) (a .0 .now) (a .1 .0) (a .1 .1 .0) (are .1 .1 .0 .1) (are .0 .0 .1) (are .1 .0 .0 .1) enough 𝓣 known))
-
 fn-meets : {M : Type 1} (𝓤 : URA M) (H : Heap 𝓤) (A : Atoms 𝓤) → Given 𝓤 H A → (at-mem : Memory → SProp 𝓤) (run : Routine → Fun 𝓤) (𝓣 : Tables 𝓤 H) → Triple 𝓤 (𝓣 .C inner.Symbol.name) (Callee 𝓤 H A at-mem run)
     → Meets 𝓤 H A fn.signature (WpFn 𝓤 H (𝓣 .C) (𝓣 .Λ) code.function) (fn.spec 𝓤 H A at-mem run)
 fn-meets 𝓤 H A W at-mem run 𝓣 known =
     walk-meets 𝓤 H A fn.ended stayed W (goes-slice 𝓤 H A W 2 0 tt (plain (λ _. T.the-row)), (goes-none-slice 𝓤 H A W 2 (1 ∷ []) tt (plain (λ _. u32)) yes, (goes-none 𝓤 H A W 2 (λ _. usize) yes (λ κs x f. refl), tt))) (fn.clauses 𝓤 H A at-mem run)
-    (WpFn 𝓤 H (𝓣 .C) (𝓣 .Λ) code.function) (WpFn-mono 𝓤 H (W .laws) 𝓣 code.function) (fn-walks 𝓤 H A W at-mem run 𝓣 known)
+    (WpFn 𝓤 H (𝓣 .C) (𝓣 .Λ) code.function) (WpFn-mono 𝓤 H (W .laws) 𝓣 code.function)
+    (walked 𝓤 H A fn.ended stayed (fn.clauses 𝓤 H A at-mem run) (WpFn 𝓤 H (𝓣 .C) (𝓣 .Λ) code.function) (λ κs. (slice-vals, (slice-vals, (uint-vals w64, tt)))) (λ κs. (mut-slice-tells (named 0) (κs .0) T.the-row, (shr-slice-tells (named 1) (κs .1 .0) u32, (uint-tells w64, tt))))
+    (λ κs qs bounds a g are. needs 𝓤 ((a .1 .1 .0 ≤ length (a .0 .now)) × (a .1 .1 .0 * 4 ≤ length (a .1 .0 .now))) _ (λ enough.
+    walk 𝓤 H A W at-mem run (κs .0) (κs .1 .0) bounds (qs .0) (qs .1 .0) (a .0 .ptr .0) (a .0 .ptr .1) (a .0 .name) (a .0 .now) (a .1 .0) (a .1 .1 .0) (are .1 .1 .0 .1) (are .0 .0 .1) (are .1 .0 .0 .1) enough 𝓣 known)))
 
 pub fill-spec : {M : Type 1} → fn.Statement.statement M
 unfolding code.routine tablesOf

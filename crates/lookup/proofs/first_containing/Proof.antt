@@ -11,7 +11,7 @@ use package.mir.Val.{Val, vint, vptr}
 use base.Logic.{SProp, ent, emp, snd∗, exE, id⊢}
 use base.Fml.{Lft, GName, Share, Fml, ftrue, fat, froom, fdies, flft, fobor}
 use prog.{Memory.Memory, Routine.Routine}
-use prog.Wp.{Heap, Out, Env, afterSeq, afterBlock, afterTurn, Calls, Loops, Wp, atReturn, WpFn, Tables}
+use prog.Wp.{Heap, Out, Env, afterSeq, afterBlock, afterTurn, Wp, atReturn, WpFn, Tables}
 use ghost.Atoms.{Atoms, sem}
 use contract.{Monad.Fun, Monad.fact, Running.givenOf, Running.tables, Running.tablesOf}
 use types.Kit.{Given, Item, ‵, raw, _⊛_, ⋆, Sq, runs, anyQ, atRet, some, later, _$_, _∵_, !, qed, by, move, drop, use0, use1, split, join, pick, rewrite, fsplit, fjoin, suffices, frame, await, done}
@@ -21,7 +21,7 @@ use sound.WpLaws.{fmOf, WpFn-mono}
 use denote.{RattleType.owns, Laws.Is, Laws.shows, Memory.shares, Memory.pointee, Plain.uint-vals, Plain.uint-tells, Plain.uint-makes, Plain.bool-lawful, Builtin.usize, Builtin.bool, Ref.RefT, Slice.sliceTy, Slice.sliceVal, Slice.ShrSlice, Slice.Room, Slice.slice-vals, Slice.shr-slice-tells, Slice.shr-slice-copy, Index.row, Index.place-is, Index.elem-out, Index.elem-back, Index.looks-slice, Index.shuts-slice, Signature.plain, Steps.owned, Steps.peeks, Steps.heard, Steps.nothing, Steps.only, Exit.yes}
 use denote.Struct.Laws as LL
 use denote.Triple.{Statement.Contract, Statement.Triple, Call.calls-at, Entry.onEntry, Spec.Meets, Spec.tripleOf, Table.entered, Table.cited, Clauses.ensured, Clauses.lasts}
-use denote.Triple.Walked.{says, needs, Stays, stay-none-slice, stay-none, walkOf, goes-none-slice, goes-none, Walks, ends-at, walked, walk-meets}
+use denote.Triple.Walked.{says, needs, Stays, stay-none-slice, stay-none, walkOf, goes-none-slice, goes-none, ends-at, walked, walk-meets}
 use Rattle.model.{specs.Geometry.containsOf, specs.declared.Rect.Rect}
 use Rattle.lookup.specs.{Lookup.firstOf, Numbers.none, Numbers.Without}
 use Rattle.lookup.proofs.{FirstLaws.Searching, FirstLaws.searching-start, FirstLaws.searching-found, FirstLaws.searching-more, FirstLaws.searching-end, Rows.mach, Rows.rest-of, Rows.place-fits, Rows.holds, Rows.fails}
@@ -98,12 +98,6 @@ module _ {M : Type 1} (𝓤 : URA M) (H : Heap 𝓤) (A : Atoms 𝓤) (W : Given
   from-m = (m, searching-start f ys n m behind enough without)
 
   module _ (𝓣 : Tables 𝓤 H) (known : Triple 𝓤 (𝓣 .C inner.Symbol.name) (Callee 𝓤 H A at-mem run)) (q′ : Share) (l₀ l₁ l₂ l₃ l₄ l₅ l₆ l₇ l₈ l₉ l₁₀ l₁₁ : ℕ) where
-    abbrev C : Calls 𝓤 H
-    C = 𝓣 .C
-
-    abbrev Λ : Loops 𝓤 H
-    Λ = 𝓣 .Λ
-
     abbrev τ : Ty
     τ = sliceTy (tyRef (named 0) imm (pointee (T.the-row .written)))
 
@@ -121,12 +115,12 @@ module _ {M : Type 1} (𝓤 : URA M) (H : Heap 𝓤) (A : Atoms 𝓤) (W : Given
 
     -- a turn's postcondition: it ends nearer to n, or returns, or the loop is left and the rest of the body runs
     abbrev Turned : Upto → Out → SProp 𝓤
-    Turned i = afterTurn 𝓤 H (Below 𝓤 H A Nearer Here i) (afterBlock 𝓤 H (afterSeq 𝓤 H (Wp 𝓤 H C Λ En mir.t-3 (atReturn 𝓤 H En Post)) (atReturn 𝓤 H En Post)))
+    Turned i = afterTurn 𝓤 H (Below 𝓤 H A Nearer Here i) (afterBlock 𝓤 H (afterSeq 𝓤 H (Wp 𝓤 H (𝓣 .C) (𝓣 .Λ) En mir.t-3 (atReturn 𝓤 H En Post)) (atReturn 𝓤 H En Post)))
 
     fits : (j : Upto) → j .0 < 2 ^ 64
     fits j = lt-of-le-of-lt (j .1 .along) n-fits
 
-    turns : (i : Upto) → Sq W (Here i) (runs C Λ En mir.turn-1 (anyQ (Turned i)))
+    turns : (i : Upto) → Sq W (Here i) (runs (𝓣 .C) (𝓣 .Λ) En mir.turn-1 (anyQ (Turned i)))
     unfolding afterTurn
     turns i =
         assigns ! (bin ! (load ! (from ! (stop !)) (look ! 15 refl)) (load ! (from ! (stop !)) (look ! 19 refl)) tt) (from ! (stop !)) (init ! 11 refl (tt, tt)) $
@@ -134,7 +128,7 @@ module _ {M : Type 1} (𝓤 : URA M) (H : Heap 𝓤) (A : Atoms 𝓤) (W : Given
         (λ less.
         let l : i .0 < n = ltb→lt (i .0) n less in
         let l′ : i .0 < length ys = lt-of-lt-of-le l enough in
-        skips ! $ exec ! C Λ En more (anyQ (Turned i)) $
+        skips ! $ exec ! (𝓣 .C) (𝓣 .Λ) En more (anyQ (Turned i)) $
         -- [the row; the open borrow; the slice; _11 3; _10 5; _9 7; _8 9; _7 11; _6 13; _5 15; _4 17; _3 19; _2 21; _1 23; _0 25]: the element is read whole
         assigns ! (bin ! (load ! (from ! (stop !)) (look ! 15 refl)) (lit ! tt) (record { fits = place-fits (room .1) l′ })) (from ! (stop !)) (init ! 9 refl (tt, record { fits = place-fits (room .1) l′ })) $
         assigns ! (bin ! (load ! (from ! (fld ! refl (stop !))) (look-in ! 23 (sub ! 0 refl (whole !)))) (load ! (from ! (stop !)) (look ! 9 refl)) tt) (from ! (stop !)) (init ! 7 refl (tt, tt)) $
@@ -160,10 +154,10 @@ module _ {M : Type 1} (𝓤 : URA M) (H : Heap 𝓤) (A : Atoms 𝓤) (W : Given
         by ! (exits (i .0) (searching-found (i .1) l enough (sym e ∙ holds t y)) (fits i)))
         (λ z.
         let next : Upto = (i .0 + 1, searching-more (i .1) l enough (sym e ∙ fails t z)) in
-        skips ! $ exec ! C Λ En onward (anyQ (Turned i)) $
+        skips ! $ exec ! (𝓣 .C) (𝓣 .Λ) En onward (anyQ (Turned i)) $
         assigns-last ! (bin ! (load ! (from ! (stop !)) (look ! 15 refl)) (lit ! tt) (record { fits = fits next })) (from ! (stop !)) (store ! 15 refl (tt, record { fits = fits next })) $
         forget ! 3 refl $ forget ! 5 refl $ forget ! 7 refl $ forget ! 9 refl $ forget ! 11 refl $ forget ! 13 refl $ again ! Nearer Here i next (add-one-dec n (i .0) l))))))))
-        (λ over. jumps ! $ exec ! C Λ En mir.t-3 (atRet En Post) $
+        (λ over. jumps ! $ exec ! (𝓣 .C) (𝓣 .Λ) En mir.t-3 (atRet En Post) $
         assigns ! (of-opd ! (load ! (from ! (stop !)) (look ! 19 refl))) (from ! (stop !)) (init ! 25 refl (tt, record { fits = n-fits })) $
         shuts-slice ! tt T.the-row q′ ys b o $
         returns ! (look ! 24 refl) $ forget ! 10 refl $ forget ! 14 refl $ forget ! 16 refl $ forget ! 18 refl $ forget ! 20 refl $ forget ! 22 refl $ forget ! 24 refl $
@@ -171,7 +165,7 @@ module _ {M : Type 1} (𝓤 : URA M) (H : Heap 𝓤) (A : Atoms 𝓤) (W : Given
         by ! (exits n (searching-end (i .1) (nltb→le (i .0) n over)) n-fits))
 
     -- the loop, from the start
-    looped : Sq W (Here from-m) (runs C Λ En mir.t-2 (atRet En Post))
+    looped : Sq W (Here from-m) (runs (𝓣 .C) (𝓣 .Λ) En mir.t-2 (atRet En Post))
     looped = first ! $ blocks ! $ loops ! 𝓣 Nearer Nearer-wf Here turns from-m
 
   module _ (𝓣 : Tables 𝓤 H) (known : Triple 𝓤 (𝓣 .C inner.Symbol.name) (Callee 𝓤 H A at-mem run)) where
@@ -188,17 +182,14 @@ module _ {M : Type 1} (𝓤 : URA M) (H : Heap 𝓤) (A : Atoms 𝓤) (W : Given
         move ! (2 ∷ []) $ drop ! $ move ! (2 ∷ []) $ drop ! $
         looped 𝓣 known q′ l₀ l₁ l₂ l₃ l₄ l₅ l₆ l₇ l₈ l₉ l₁₀ l₁₁)))))))))))))
 
-module _ {M : Type 1} (𝓤 : URA M) (H : Heap 𝓤) (A : Atoms 𝓤) (W : Given 𝓤 H A) (at-mem : Memory → SProp 𝓤) (run : Routine → Fun 𝓤) where
-  fn-walks : (𝓣 : Tables 𝓤 H) → Triple 𝓤 (𝓣 .C inner.Symbol.name) (Callee 𝓤 H A at-mem run) → Walks 𝓤 H A fn.ended stayed (WpFn 𝓤 H (𝓣 .C) (𝓣 .Λ) code.function) (fn.clauses 𝓤 H A at-mem run)
-  fn-walks 𝓣 known = walked 𝓤 H A fn.ended stayed (fn.clauses 𝓤 H A at-mem run) (WpFn 𝓤 H (𝓣 .C) (𝓣 .Λ) code.function) (λ κs. (slice-vals, (uint-vals w64, (uint-vals w64, (mach, tt))))) (λ κs. (shr-slice-tells (named 0) (κs .0) T.the-row, (uint-tells w64, (uint-tells w64, (LL.tells T.the-type T′.the-laws, tt)))))
-      (λ κs qs bounds a g are. needs 𝓤 ((a .1 .0 ≤ a .1 .1 .0) × (a .1 .1 .0 ≤ length (a .0 .now)) × Without (a .0 .now) (a .1 .0) (a .1 .1 .1 .0)) _ (λ enough.
-      walk 𝓤 H A W at-mem run (κs .0) (qs .0) (a .0 .ptr .0) (a .0 .ptr .1) (a .0 .name) (a .0 .now) (a .1 .0) (a .1 .1 .0) (a .1 .1 .1 .0) (are .1 .0 .1) (are .1 .1 .0 .1) (are .1 .1 .1 .0) (are .0 .0 .1) (enough .0) (enough .1) (enough .2) 𝓣 known))
-
 fn-meets : {M : Type 1} (𝓤 : URA M) (H : Heap 𝓤) (A : Atoms 𝓤) → Given 𝓤 H A → (at-mem : Memory → SProp 𝓤) (run : Routine → Fun 𝓤) (𝓣 : Tables 𝓤 H) → Triple 𝓤 (𝓣 .C inner.Symbol.name) (Callee 𝓤 H A at-mem run)
     → Meets 𝓤 H A fn.signature (WpFn 𝓤 H (𝓣 .C) (𝓣 .Λ) code.function) (fn.spec 𝓤 H A at-mem run)
 fn-meets 𝓤 H A W at-mem run 𝓣 known =
     walk-meets 𝓤 H A fn.ended stayed W (goes-none-slice 𝓤 H A W 1 (0 ∷ []) tt (plain (λ _. T.the-row)) yes, (goes-none 𝓤 H A W 1 (λ _. usize) yes (λ κs x f. refl), (goes-none 𝓤 H A W 1 (λ _. usize) yes (λ κs x f. refl), (goes-none 𝓤 H A W 1 (λ _. T.the-row) yes (λ κs x f. refl), tt)))) (fn.clauses 𝓤 H A at-mem run)
-    (WpFn 𝓤 H (𝓣 .C) (𝓣 .Λ) code.function) (WpFn-mono 𝓤 H (W .laws) 𝓣 code.function) (fn-walks 𝓤 H A W at-mem run 𝓣 known)
+    (WpFn 𝓤 H (𝓣 .C) (𝓣 .Λ) code.function) (WpFn-mono 𝓤 H (W .laws) 𝓣 code.function)
+    (walked 𝓤 H A fn.ended stayed (fn.clauses 𝓤 H A at-mem run) (WpFn 𝓤 H (𝓣 .C) (𝓣 .Λ) code.function) (λ κs. (slice-vals, (uint-vals w64, (uint-vals w64, (mach, tt))))) (λ κs. (shr-slice-tells (named 0) (κs .0) T.the-row, (uint-tells w64, (uint-tells w64, (LL.tells T.the-type T′.the-laws, tt)))))
+    (λ κs qs bounds a g are. needs 𝓤 ((a .1 .0 ≤ a .1 .1 .0) × (a .1 .1 .0 ≤ length (a .0 .now)) × Without (a .0 .now) (a .1 .0) (a .1 .1 .1 .0)) _ (λ enough.
+    walk 𝓤 H A W at-mem run (κs .0) (qs .0) (a .0 .ptr .0) (a .0 .ptr .1) (a .0 .name) (a .0 .now) (a .1 .0) (a .1 .1 .0) (a .1 .1 .1 .0) (are .1 .0 .1) (are .1 .1 .0 .1) (are .1 .1 .1 .0) (are .0 .0 .1) (enough .0) (enough .1) (enough .2) 𝓣 known)))
 
 pub first-containing-spec : {M : Type 1} → fn.Statement.statement M
 unfolding code.routine tablesOf

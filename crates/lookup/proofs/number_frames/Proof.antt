@@ -10,7 +10,7 @@ use package.mir.Val.{Val, WT, hasTy, vunit, vint}
 use base.Logic.{SProp, ent, snd∗, exE, id⊢}
 use base.Fml.{Lft, GName, Share, Fml, ftrue, fat, froom, fdies, flft, flent}
 use prog.{Memory.Memory, Routine.Routine}
-use prog.Wp.{Heap, Out, Env, afterSeq, afterBlock, afterTurn, Calls, Loops, Wp, atReturn, WpFn, Tables}
+use prog.Wp.{Heap, Out, Env, afterSeq, afterBlock, afterTurn, Calls, Wp, atReturn, WpFn, Tables}
 use ghost.Atoms.{Atoms, sem}
 use contract.{Monad.Fun, Monad.fact, Running.givenOf, Running.tables, Running.tablesOf, Lifetimes.AllOutlive}
 use types.Kit.{Given, Item, ‵, raw, _⊛_, ⋆, Sq, runs, anyQ, atRet, some, later, _$_, _∵_, !, qed, by, move, drop, use1, use2, use3, split, join, pick, rewrite, fsplit, fjoin, feqL, feqI, suffices, frame, await, done}
@@ -21,7 +21,7 @@ use denote.{RattleType.owns, Laws.Is, Laws.shows, Memory.mem, Memory.shares, Pla
 use denote.Slice.{sliceVal, MutSlice, ShrSlice, Room, slice-vals, shr-slice-tells, mut-slice-tells, shr-slice-copy}
 use denote.Struct.Laws as LL
 use denote.Triple.{Statement.Contract, Statement.Triple, Call.calls-at, Call.calls-at-last, Entry.onEntry, Spec.Meets, Spec.tripleOf, Table.entered, Table.cited, Clauses.ensured, Clauses.lasts}
-use denote.Triple.Walked.{says, needs, Stays, stay-slice, stay-none, stay-none-slice, walkOf, goes-slice, goes-none, goes-none-slice, Walks, ends-at, walked, walk-meets}
+use denote.Triple.Walked.{says, needs, Stays, stay-slice, stay-none, stay-none-slice, walkOf, goes-slice, goes-none, goes-none-slice, ends-at, walked, walk-meets}
 use Rattle.lists.{specs.Picture.canvas, proofs.RunLaws.length-run}
 use Rattle.model.{specs.Limits.regionCount, specs.declared.Rect.Rect}
 use Rattle.regions.{specs.Rects.rectAt, specs.Rects.rectsOf, specs.Rects.Layer, specs.Regions.Finder}
@@ -272,12 +272,6 @@ module _ {M : Type 1} (𝓤 : URA M) (H : Heap 𝓤) (A : Atoms 𝓤) (W : Given
           owned ! usize (Is usize) (uint-makes 𝓤 H A W w64) k _ (refl, fits) $ fjoin ! $ owned ! N.the-row (Is N.the-row) (LL.makes N.the-type N′.the-plain 𝓤 H A) t _ is $ fjoin ! $ move ! (1 ∷ 0 ∷ []) $ fjoin ! $ done !
 
     module _ (𝓣 : Tables 𝓤 H) (known : Known 𝓤 H A at-mem run (𝓣 .C)) (l₀ l₁ l₂ l₃ l₄ l₅ l₆ l₈ l₉ l₁₀ l₁₁ l₁₂ l₁₃ l₁₄ l₁₅ l₁₆ l₁₇ l₁₈ l₁₉ l₂₀ l₂₁ : ℕ) where
-      abbrev C : Calls 𝓤 H
-      C = 𝓣 .C
-
-      abbrev Λ : Loops 𝓤 H
-      Λ = 𝓣 .Λ
-
       abbrev En : Env 𝓤 H
       En = (tyUnit, l₀) ∷ (τ 1, l₁) ∷ (tyInt w64, l₂) ∷ (tyInt w64, l₃) ∷ (τ 4, l₄) ∷ (tyInt w64, l₅) ∷ (τ 6, l₆) ∷ (tyArray T′.mir 1024, l₇) ∷ (tyInt w64, l₈) ∷ (tyInt w64, l₉) ∷ (tyInt w64, l₁₀) ∷ (N′.mir, l₁₁) ∷ (tyInt w64, l₁₂) ∷ (T′.mir, l₁₃) ∷ (tyUnit, l₁₄) ∷ (τ 15, l₁₅) ∷ (τ 16, l₁₆) ∷ (tyBool, l₁₇) ∷ (τ 18, l₁₈) ∷ (τ 19, l₁₉) ∷ (τ 20, l₂₀) ∷ (τ 21, l₂₁) ∷ []
 
@@ -295,9 +289,9 @@ module _ {M : Type 1} (𝓤 : URA M) (H : Heap 𝓤) (A : Atoms 𝓤) (W : Given
 
       -- a turn's postcondition: it ends nearer to the last place, or the loop is left and the rest of the body runs
       abbrev Turned : Upto → Out → SProp 𝓤
-      Turned i = afterTurn 𝓤 H (Below 𝓤 H A Nearer Here i) (afterBlock 𝓤 H (afterSeq 𝓤 H (Wp 𝓤 H C Λ En mir.t-10 (atReturn 𝓤 H En Post)) (atReturn 𝓤 H En Post)))
+      Turned i = afterTurn 𝓤 H (Below 𝓤 H A Nearer Here i) (afterBlock 𝓤 H (afterSeq 𝓤 H (Wp 𝓤 H (𝓣 .C) (𝓣 .Λ) En mir.t-10 (atReturn 𝓤 H En Post)) (atReturn 𝓤 H En Post)))
 
-      turns : (i : Upto) → Sq W (Here i) (runs C Λ En mir.turn-1 (anyQ (Turned i)))
+      turns : (i : Upto) → Sq W (Here i) (runs (𝓣 .C) (𝓣 .Λ) En mir.turn-1 (anyQ (Turned i)))
       unfolding afterTurn
       turns i =
           assigns ! (bin ! (load ! (from ! (stop !)) (look ! 33 refl)) (load ! (from ! (stop !)) (look ! 35 refl)) tt) (from ! (stop !)) (init ! 17 refl (tt, tt)) $
@@ -305,7 +299,7 @@ module _ {M : Type 1} (𝓤 : URA M) (H : Heap 𝓤) (A : Atoms 𝓤) (W : Given
           (λ less.
           let l : i .0 < h * w = ltb→lt (i .0) (h * w) less in
           let len : length (i .1 .0) ≡ length ys = i .1 .1 .1 .long in
-          skips ! $ exec ! C Λ En more (anyQ (Turned i)) $
+          skips ! $ exec ! (𝓣 .C) (𝓣 .Λ) En more (anyQ (Turned i)) $
           -- `seek` is called
           move ! (3 ∷ []) $ use1 W (‵ G ⊛ ‵ G) (shr-slice-copy 𝓤 H A W (named 0) κ₀ u32 .twice g (vg ∷ [])) $ split ! $ move ! (4 ∷ 0 ∷ []) $ use2 W (raw (Seek 𝓤 H A at-mem run .pre (to-seek (i .0)))) (goes-seek (i .0) l) $
           calls-at ! (fmOf 𝓤 H (W .laws) 𝓣) (Seek 𝓤 H A at-mem run) (known .seeks) (to-seek (i .0)) (and-then ! (load ! (from ! (stop !)) (look ! 48 refl)) (and-then ! (load ! (from ! (stop !)) (look ! 46 refl)) (and-then ! (load ! (from ! (stop !)) (look ! 44 refl)) (and-then ! (load ! (from ! (stop !)) (look ! 33 refl)) (no-more !))))) (λ u.
@@ -354,7 +348,7 @@ module _ {M : Type 1} (𝓤 : URA M) (H : Heap 𝓤) (A : Atoms 𝓤) (W : Given
           rewrite ! 0 (λ (m : ℕ). ‵ (F (os .0) m)) len refl $ move ! (2 ∷ []) $ drop ! $ move ! (2 ∷ []) $ drop ! $ move ! (3 ∷ 2 ∷ 4 ∷ 5 ∷ 1 ∷ 0 ∷ []) $
           land-last ! (from ! (stop !)) (store ! 33 refl (uint-lawful 𝓤 H A W w64 .typed r _ is″ .0)) $ rewrite ! 33 (λ (z : Val). ‵ (fat fullShare (tyInt w64) l₉ 0 z)) (ap only (is″ .0)) refl $
           forget ! 9 refl $ forget ! 11 refl $ forget ! 13 refl $ forget ! 15 refl $ forget ! 17 refl $ forget ! 27 refl $ forget ! 29 refl $ again ! Nearer Here i next (nearer l (turn .0)))))))))))))))))))))))
-          (λ over. jumps ! $ exec ! C Λ En mir.t-10 (atRet En Post) $
+          (λ over. jumps ! $ exec ! (𝓣 .C) (𝓣 .Λ) En mir.t-10 (atRet En Post) $
           assigns ! (of-opd ! (unit-lit !)) (from ! (stop !)) (init ! 50 refl (tt, tt)) $
           -- the rects come back
           move ! (1 ∷ []) $ split ! $ lft-end ! tt $ move ! (0 ∷ 7 ∷ []) $ lent-back ! tt $
@@ -366,7 +360,7 @@ module _ {M : Type 1} (𝓤 : URA M) (H : Heap 𝓤) (A : Atoms 𝓤) (W : Given
           move ! (18 ∷ 19 ∷ []) $ free1 ! $ move ! (16 ∷ 17 ∷ []) $ free1 ! $ move ! (14 ∷ 15 ∷ []) $ free1 ! $ move ! (12 ∷ 13 ∷ []) $ free1 ! $ move ! (10 ∷ 11 ∷ []) $ free1 ! $ move ! (8 ∷ 9 ∷ []) $ free1 ! $ move ! (6 ∷ 7 ∷ []) $ free1 ! $ free0 ! $
           by ! (exits (i .1 .0) (numbering-end (i .1 .1 .1) (nltb→le (i .0) (h * w) over)) (i .1 .1 .1 .long)))
 
-      looped : Sq W (Here from-0) (runs C Λ En mir.t-9 (atRet En Post))
+      looped : Sq W (Here from-0) (runs (𝓣 .C) (𝓣 .Λ) En mir.t-9 (atRet En Post))
       looped = first ! $ blocks ! $ loops ! 𝓣 Nearer Nearer-wf Here turns from-0
 
   module _ (𝓣 : Tables 𝓤 H) (known : Known 𝓤 H A at-mem run (𝓣 .C)) where
@@ -410,20 +404,17 @@ module _ {M : Type 1} (𝓤 : URA M) (H : Heap 𝓤) (A : Atoms 𝓤) (W : Given
         forget ! 19 refl $ forget ! 21 refl $ forget ! 23 refl $ forget ! 25 refl $
         looped ν′ δ′ l₇ (zs .0) len (ap (take n) e ∙ filled-take blanks (s .now) n) 𝓣 known l₀ l₁ l₂ l₃ l₄ l₅ l₆ l₈ l₉ l₁₀ l₁₁ l₁₂ l₁₃ l₁₄ l₁₅ l₁₆ l₁₇ l₁₈ l₁₉ l₂₀ l₂₁))))))))))))))))))))))))))))))))
 
-module _ {M : Type 1} (𝓤 : URA M) (H : Heap 𝓤) (A : Atoms 𝓤) (W : Given 𝓤 H A) (at-mem : Memory → SProp 𝓤) (run : Routine → Fun 𝓤) where
-  fn-walks : (𝓣 : Tables 𝓤 H) → Known 𝓤 H A at-mem run (𝓣 .C) → Walks 𝓤 H A fn.ended stayed (WpFn 𝓤 H (𝓣 .C) (𝓣 .Λ) code.function) (fn.clauses 𝓤 H A at-mem run)
-  fn-walks 𝓣 known = walked 𝓤 H A fn.ended stayed (fn.clauses 𝓤 H A at-mem run) (WpFn 𝓤 H (𝓣 .C) (𝓣 .Λ) code.function) (λ κs. (slice-vals, (uint-vals w64, (uint-vals w64, (slice-vals, (uint-vals w64, (slice-vals, tt)))))))
-      (λ κs. (shr-slice-tells (named 0) (κs .0) u32, (uint-tells w64, (uint-tells w64, (shr-slice-tells (named 1) (κs .1 .0) u32, (uint-tells w64, (mut-slice-tells (named 2) (κs .1 .1 .0) u32, tt)))))))
-      (λ κs qs bounds a g are. needs 𝓤 (Layer (a .1 .0) (a .1 .1 .0) (length (a .0 .now)) × (a .1 .1 .1 .1 .0 ≤ regionCount) × (a .1 .1 .1 .1 .0 * 4 ≤ length (a .1 .1 .1 .0 .now)) × (a .1 .1 .0 * a .1 .0 ≤ length (a .1 .1 .1 .1 .1 .0 .now))) _ (λ enough.
-      walk 𝓤 H A W at-mem run (κs .0) (κs .1 .0) (κs .1 .1 .0) bounds (qs .0) (qs .1 .0) (qs .1 .1 .0) (a .0) (a .1 .0) (a .1 .1 .0) (a .1 .1 .1 .0) (a .1 .1 .1 .1 .0) (a .1 .1 .1 .1 .1 .0 .ptr .0) (a .1 .1 .1 .1 .1 .0 .ptr .1) (a .1 .1 .1 .1 .1 .0 .name) (a .1 .1 .1 .1 .1 .0 .now)
-      (are .1 .0 .1) (are .1 .1 .0 .1) (are .1 .1 .1 .1 .0 .1) (are .0 .0 .1) (are .1 .1 .1 .0 .0 .1) (are .1 .1 .1 .1 .1 .0 .0 .1) enough 𝓣 known))
-
 fn-meets : {M : Type 1} (𝓤 : URA M) (H : Heap 𝓤) (A : Atoms 𝓤) → Given 𝓤 H A → (at-mem : Memory → SProp 𝓤) (run : Routine → Fun 𝓤) (𝓣 : Tables 𝓤 H) → Known 𝓤 H A at-mem run (𝓣 .C)
     → Meets 𝓤 H A fn.signature (WpFn 𝓤 H (𝓣 .C) (𝓣 .Λ) code.function) (fn.spec 𝓤 H A at-mem run)
 fn-meets 𝓤 H A W at-mem run 𝓣 known =
     walk-meets 𝓤 H A fn.ended stayed W
     (goes-none-slice 𝓤 H A W 3 (0 ∷ []) tt (plain (λ _. u32)) yes, (goes-none 𝓤 H A W 3 (λ _. usize) yes (λ κs x f. refl), (goes-none 𝓤 H A W 3 (λ _. usize) yes (λ κs x f. refl), (goes-none-slice 𝓤 H A W 3 (1 ∷ []) tt (plain (λ _. u32)) yes, (goes-none 𝓤 H A W 3 (λ _. usize) yes (λ κs x f. refl), (goes-slice 𝓤 H A W 3 2 tt (plain (λ _. u32)), tt)))))) (fn.clauses 𝓤 H A at-mem run)
-    (WpFn 𝓤 H (𝓣 .C) (𝓣 .Λ) code.function) (WpFn-mono 𝓤 H (W .laws) 𝓣 code.function) (fn-walks 𝓤 H A W at-mem run 𝓣 known)
+    (WpFn 𝓤 H (𝓣 .C) (𝓣 .Λ) code.function) (WpFn-mono 𝓤 H (W .laws) 𝓣 code.function)
+    (walked 𝓤 H A fn.ended stayed (fn.clauses 𝓤 H A at-mem run) (WpFn 𝓤 H (𝓣 .C) (𝓣 .Λ) code.function) (λ κs. (slice-vals, (uint-vals w64, (uint-vals w64, (slice-vals, (uint-vals w64, (slice-vals, tt)))))))
+    (λ κs. (shr-slice-tells (named 0) (κs .0) u32, (uint-tells w64, (uint-tells w64, (shr-slice-tells (named 1) (κs .1 .0) u32, (uint-tells w64, (mut-slice-tells (named 2) (κs .1 .1 .0) u32, tt)))))))
+    (λ κs qs bounds a g are. needs 𝓤 (Layer (a .1 .0) (a .1 .1 .0) (length (a .0 .now)) × (a .1 .1 .1 .1 .0 ≤ regionCount) × (a .1 .1 .1 .1 .0 * 4 ≤ length (a .1 .1 .1 .0 .now)) × (a .1 .1 .0 * a .1 .0 ≤ length (a .1 .1 .1 .1 .1 .0 .now))) _ (λ enough.
+    walk 𝓤 H A W at-mem run (κs .0) (κs .1 .0) (κs .1 .1 .0) bounds (qs .0) (qs .1 .0) (qs .1 .1 .0) (a .0) (a .1 .0) (a .1 .1 .0) (a .1 .1 .1 .0) (a .1 .1 .1 .1 .0) (a .1 .1 .1 .1 .1 .0 .ptr .0) (a .1 .1 .1 .1 .1 .0 .ptr .1) (a .1 .1 .1 .1 .1 .0 .name) (a .1 .1 .1 .1 .1 .0 .now)
+    (are .1 .0 .1) (are .1 .1 .0 .1) (are .1 .1 .1 .1 .0 .1) (are .0 .0 .1) (are .1 .1 .1 .0 .0 .1) (are .1 .1 .1 .1 .1 .0 .0 .1) enough 𝓣 known)))
 
 pub number-frames-spec : {M : Type 1} → fn.Statement.statement M
 unfolding code.routine tablesOf
