@@ -27,12 +27,6 @@ answered : (c : tie.After-recognize-rectangle) {F : Framed} → c .recognize-rec
     (c .before .before .next-corner .result % start (c .before .before) .args .w) (c .before .before .next-corner .result / start (c .before .before) .args .w)
 answered c e = ap framedIn (sym e) ∙ c .recognize-rectangle .ensures
 
-mul-size : tie.Need-mul-size
-mul-size c = search needs
-
-next-corner-requires : tie.Need-next-corner-requires
-next-corner-requires c κs = search needs
-
 div-row : tie.Need-div-row
 div-row c = let t = c .before .before in columns (t .args .w) (t .args .h) (t .args .i) (t .pre .1)
 
@@ -52,12 +46,6 @@ recognize-rectangle-requires c κs =
     let t = start (c .before) in
     place-of (t .args .w) (t .args .h) (c .before .next-corner .result) (length (t .args .layer .now)) (t .pre .0) (c .if1 .left)
 
-enum-known-f : tie.Need-enum-known-f
-enum-known-f c = search needs
-
-enum-told : tie.Need-enum-told
-enum-told c = search needs
-
 returns-2 : tie.Need-returns-2
 returns-2 c =
     let g = c .before .before .before in
@@ -72,15 +60,4 @@ returns-3 c =
 pub seek-spec : {M : Type 1} → statement M
 seek-spec =
     tie.close
-    (tie.spec
-    mul-size
-    next-corner-requires
-    div-row
-    add-recognize-rectangle
-    returns
-    rem-recognize-rectangle
-    recognize-rectangle-requires
-    enum-known-f
-    enum-told
-    returns-2
-    returns-3)
+    (tie.spec (λ c. search needs) (λ c κs. search needs) div-row add-recognize-rectangle returns rem-recognize-rectangle recognize-rectangle-requires (λ c. search needs) (λ c. search needs) returns-2 returns-3)
