@@ -27,7 +27,7 @@ use Rattle.model.{specs.Limits.regionCount, specs.declared.Rect.Rect}
 use Rattle.regions.{specs.Rects.rectAt, specs.Rects.rectsOf, specs.Rects.Layer, specs.Regions.Finder}
 use Rattle.walks.{specs.Frame.frameOf, specs.Kinds.grid}
 use Rattle.lookup.specs.{Lookup.firstOf, Lookup.Numbered, Numbers.none, Numbers.Above, Numbers.Without, Numbers.numberIn, Numbers.Seen, Numbers.Stored, declared.Sought.Sought}
-use Rattle.lookup.proofs.{Again.LentAgain, Again.lends-again, Again.comes-back, Big.big, FirstLaws.filled, FirstLaws.filled-take, FirstLaws.first-few, FirstLaws.without-above, NumberLaws.Numbering, NumberLaws.numbering-start, NumberLaws.above-corner, NumberLaws.numbering-next, NumberLaws.numbering-end, Rows.mach, Rows.rest-of, Rows.blankVal, Rows.none-is, Rows.blanks-typed, Rows.row-in, Rows.row-room}
+use Rattle.lookup.proofs.{Again.LentAgain, Again.lends-again, Again.comes-back, FirstLaws.filled, FirstLaws.filled-take, FirstLaws.first-few, FirstLaws.without-above, NumberLaws.Numbering, NumberLaws.numbering-start, NumberLaws.above-corner, NumberLaws.numbering-next, NumberLaws.numbering-end, Rows.mach, Rows.rest-of, Rows.blankVal, Rows.none-is, Rows.blanks-typed, Rows.row-in, Rows.row-room, Rows.big}
 use Rattle.model.proofs.Rect as T
 use Rattle.model.proofs.Rect.Laws as T′
 use Rattle.lookup.proofs.Sought as N
