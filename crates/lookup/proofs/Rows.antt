@@ -4,7 +4,7 @@
 --     row-room     the elements in memory are the array's cell again, and its room: a step, before the local is freed
 --     big          a constant above 1023, which MIR writes as `intBig`: the rule beside `types.Run`'s `lit`
 -- Assumes `Given`.
-use mathlib.Core.{Path._≡_, Path.refl, Bool.Bool, Bool.true, Bool.false, Bool.not, List.List, List.[], List._∷_}
+use mathlib.Core.{Path._≡_, Path.refl, List.List, List.[], List._∷_}
 use Prim.Native.Nat.{ℕ, zero, suc, _*_, _<_, _^_}
 use native.Mathlib.Omega.{arith}
 use lib.{Dec.T as Holds, Dec.lit<, ListN.replicate, ListN.length-replicate}
@@ -39,15 +39,6 @@ rest-of (switch c a) = skipᴹ
 rest-of (exit n) = skipᴹ
 rest-of return = skipᴹ
 rest-of (call f xs d) = skipᴹ
-
--- what a branch tells of its test
-pub holds : (t : Bool) → Holds t → t ≡ true
-holds true h = refl
-holds false h = absurd h
-
-pub fails : (t : Bool) → Holds (not t) → t ≡ false
-fails true h = absurd h
-fails false h = refl
 
 -- the place of an element fits, as the whole slice does
 pub place-fits : {i n : ℕ} → n * 32 < 2 ^ 63 → i < n → i * 32 < 2 ^ 64
