@@ -4,7 +4,7 @@
 --     row-room     the elements in memory are the array's cell again, and its room: a step, before the local is freed
 --     big          a constant above 1023, which MIR writes as `intBig`: the rule beside `types.Run`'s `lit`
 -- Assumes `Given`.
-use mathlib.Core.{Path._≡_, Path.refl, List.List, List.[], List._∷_}
+use mathlib.Core.{Path.refl, List.List, List.[], List._∷_}
 use Prim.Native.Nat.{ℕ, zero, suc, _*_, _<_, _^_}
 use native.Mathlib.Omega.{arith}
 use lib.{Dec.T as Holds, Dec.lit<, ListN.replicate, ListN.length-replicate}

@@ -1,4 +1,4 @@
--- `lookup::number_frames` meets its contract: a walk of its MIR, by hand. A local array of 1024 rects is made, lent by `&mut` as a slice to `fill`, comes back at the filled list, and is lent by `&` for the loop. A turn calls `seek`, calls `first_containing` on the rects, and lends `found` again to `put_number`, from which it comes back with one number more.
+-- `lookup::number_frames` meets its contract: a walk of its MIR, by hand. A local array of 1024 rects is made, lent by `&mut` as a slice to `fill`, comes back at the filled list, and is lent by `&` for the loop. A turn calls `seek`, `live` on the numbers and `first_containing` on the rects, and lends `found` again to `put_number`, from which it comes back with one number more.
 -- Assumes nothing.
 use mathlib.Core.{Path._≡_, Path.refl, Path.sym, Path._∙_, Path.ap, Path.subst, WellFounded.WellFounded, WellFounded.InvImage·wf, List.List, List.[], List._∷_}
 use Prim.Native.Nat.{ℕ, zero, suc, _-_, _≤_, _<_, _*_, _^_}
