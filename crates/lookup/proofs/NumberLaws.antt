@@ -30,13 +30,13 @@ module _ {d : List ℕ} {size i k : ℕ} (q : NextCorner d size i k) where
 pub number-small : (s : Sought) (k n : ℕ) → k < 2 ^ 32 → n < 2 ^ 32 → numberIn s k n < 2 ^ 32
 number-small s k n a b = by-flag (s .framed) (λ y. rw y a) (λ z. rw z b)
 
--- the frames before place i are numbered, by the first n rects of a slice; those before `from` end at or above its row
+-- the frames before place i are numbered, by the first n rects of a slice; those before `from` end at or above the row under it
 pub record Numbering (find : Finder) (nums : List ℕ) (n : ℕ) (d : List ℕ) (w h : ℕ) (start : List ℕ) (i from : ℕ) (found : List ℕ) : Type 0 where
   pub along : i ≤ h * w
   pub long : length found ≡ length start
   pub numbers : Numbered find (rectsOf nums n) (canvas w h d) w i found
   pub few : from ≤ n
-  pub above : Above nums from (i / w)
+  pub above : Above nums from (i / w + 1)
 
 pub numbering-start : (find : Finder) (nums : List ℕ) (n : ℕ) (d : List ℕ) (w h : ℕ) (found : List ℕ) → Numbering find nums n d w h found 0 0 found
 numbering-start find nums n d w h found = record { along = omega arith; long = cc; numbers = λ i l. absurd (omega arith); few = omega arith; above = λ j l. absurd (omega arith) }
@@ -49,16 +49,18 @@ module _ {find : Finder} {nums : List ℕ} {n : ℕ} {d : List ℕ} {w h : ℕ} 
       by-flag (ltb j i) (λ y. ltb-true j i y)
       (λ n. true-false (sym (ap isCorner (at-canvas w h j (omega (arith, v .next .to)) d)) ∙ e) (v .next .clear j (ltb-false j i n) l))
 
-  -- the row of a place further on
-  row-on : (a b : ℕ) → a ≤ b → a / w ≤ b / w
-  row-on a b l = le-div-iff-mul-le (columns w h i less) .1 (le-trans (div-mul-le-self a w) l)
+  -- the row under a place further on
+  row-on : (a b : ℕ) → a ≤ b → a / w + 1 ≤ b / w + 1
+  row-on a b l =
+      let z : a / w ≤ b / w = le-div-iff-mul-le (columns w h i less) .1 (le-trans (div-mul-le-self a w) l) in
+      omega arith
 
-  pub above-corner : Above nums from (s .row)
-  above-corner j l = le-trans (q .above j l) (rw (v .row) (row-on i (s .at) (v .next .from)))
+  pub above-corner : Above nums from (s .under)
+  above-corner j l = le-trans (q .above j l) (rw (v .under) (row-on i (s .at) (v .next .from)))
 
-  module _ (to : ℕ) (few : to ≤ n) (above : Above nums to (s .row)) (k : ℕ) (ke : k ≡ firstOf (rectsOf nums n) (s .frame)) (out : List ℕ) (next : ℕ) (t : Stored s (numberIn s k n) (h * w) found out next) where
-    above-on : s .at ≤ next → Above nums to (next / w)
-    above-on l j b = le-trans (above j b) (rw (v .row) (row-on (s .at) next l))
+  module _ (to : ℕ) (few : to ≤ n) (above : Above nums to (s .under)) (k : ℕ) (ke : k ≡ firstOf (rectsOf nums n) (s .frame)) (out : List ℕ) (next : ℕ) (t : Stored s (numberIn s k n) (h * w) found out next) where
+    above-on : s .at ≤ next → Above nums to (next / w + 1)
+    above-on l j b = le-trans (above j b) (rw (v .under) (row-on (s .at) next l))
 
     number : s .at < h * w → numberIn s k n ≡ numberOf find (rectsOf nums n) (s .at % w) (s .at / w)
     number l =

@@ -34,11 +34,11 @@ pub record NextCorner (d : List ℕ) (size i k : ℕ) : Type 0 where
 abbrev pub numberIn : Sought → ℕ → ℕ → ℕ
 numberIn s k count = choose (s .framed) k count
 
--- the next corner from place i on, its row, and the frame that starts there; where none does, still a rect that ends below the row
+-- the next corner from place i on, the row under it, and the frame that starts there; where none does, still a rect that ends below that row
 pub record Seen (find : Finder) (d : List ℕ) (w size i : ℕ) (s : Sought) : Type 0 where
   pub next : NextCorner d size i (s .at)
-  pub row : s .row ≡ s .at / w
-  pub ends : s .row < s .frame .bottom
+  pub under : s .under ≡ s .at / w + 1
+  pub ends : s .under < s .frame .bottom
   pub frame : s .at < size → (rs : List Rect) → numberIn s (firstOf rs (s .frame)) (length rs) ≡ numberOf find rs (s .at % w) (s .at / w)
 
 -- the number of a frame is stored where it starts, and k is the place behind it; past the last place there is none

@@ -80,10 +80,10 @@ fn first_containing(rects: &[Rect], from: usize, count: usize, frame: Rect) -> u
     count
 }
 
-// A corner of GRID, its row, and the frame that starts there.
+// A corner of GRID, the row under it, and the frame that starts there.
 struct Sought {
     at: usize,
-    row: usize,
+    under: usize,
     framed: bool,
     frame: Rect,
 }
@@ -103,7 +103,7 @@ fn next_corner(layer: &[u32], size: usize, i: usize) -> usize
     size
 }
 
-// That corner, with its frame. Where there is none, some rect that ends below the corner's row.
+// That corner, with its frame. Where there is none, some rect that ends below the row under the corner, as a frame does.
 fn seek(layer: &[u32], w: usize, h: usize, i: usize) -> Sought
     requires { ⌜ Layer w h (length (now layer)) × (i < h * w) ⌝ }
     ensures { λ r. ⌜ Seen (frameOf grid (canvas w h (now (layer .entry))) w h) (now (layer .entry)) w (h * w) i r ⌝ }
@@ -111,16 +111,17 @@ fn seek(layer: &[u32], w: usize, h: usize, i: usize) -> Sought
     let size = h * w;
     let at = next_corner(layer, size, i);
     let row = at / w;
+    let under = row + 1;
     let nowhere = Rect {
         left: 0,
         top: row,
         right: 0,
-        bottom: row + 1,
+        bottom: under + 1,
     };
     if size <= at {
         return Sought {
             at,
-            row,
+            under,
             framed: false,
             frame: nowhere,
         };
@@ -128,13 +129,13 @@ fn seek(layer: &[u32], w: usize, h: usize, i: usize) -> Sought
     match walks::recognize_rectangle(layer, w, h, at % w, row) {
         Framed::Closed(f) => Sought {
             at,
-            row,
+            under,
             framed: true,
             frame: f,
         },
         Framed::NotFramed(_) => Sought {
             at,
-            row,
+            under,
             framed: false,
             frame: nowhere,
         },
@@ -185,7 +186,7 @@ pub fn number_frames(
     let mut from: usize = 0;
     while i < size {
         let s = seek(layer, w, h, i);
-        from = live(nums, count, from, s.row);
+        from = live(nums, count, from, s.under);
         let k = first_containing(&rects, from, count, s.frame);
         i = put_number(found, s, k, count, size);
     }

@@ -311,17 +311,17 @@ module _ {M : Type 1} (𝓤 : URA M) (H : Heap 𝓤) (A : Atoms 𝓤) (W : Given
           -- `live` is called
           -- [the layer's token; the layer; the rects; their token; the token of `found`; `found`; the lender's part; the numbers' token; the numbers; _21 9; …]
           move ! (8 ∷ []) $ use1 W (‵ S ⊛ ‵ S) (shr-slice-copy 𝓤 H A W (named 1) κ₁ u32 .twice s (vs ∷ [])) $ split ! $ move ! (9 ∷ 0 ∷ []) $
-          use2 W (raw (Live 𝓤 H A at-mem run .pre (to-live (i .1 .1 .0) (t .row)))) (goes-live (i .1 .1 .0) (t .row) (i .1 .1 .1 .few) (above-corner (i .1 .1 .1) l (enough .3) v) (LL.owed N.the-type N′.the-laws t _ t-is .1 .0 .1)) $
-          calls-at ! (fmOf 𝓤 H (W .laws) 𝓣) (Live 𝓤 H A at-mem run) (known .lives) (to-live (i .1 .1 .0) (t .row)) (and-then ! (load ! (from ! (stop !)) (look ! 42 refl)) (and-then ! (load ! (from ! (stop !)) (look ! 40 refl)) (and-then ! (load ! (from ! (stop !)) (look ! 31 refl)) (and-then ! (load ! (from ! (fld ! refl (stop !))) (look-in ! 29 (sub ! 1 refl (whole !)))) (no-more !))))) (λ u₁.
-          use1 W (later (some (λ (m : ℕ). ((‵ (flft κ₁ q₁) ⊛ ‵ ftrue) ⊛ ‵ (usize .own m (u₁ ∷ []))) ⊛ raw (ensured 𝓤 H A live.ended (live.clauses 𝓤 H A at-mem run) (κ₁, tt) (l-passed (i .1 .1 .0) (t .row)) tt m)))) (id⊢ 𝓤 _) $ await ! tt $ pick ! (λ m.
-          split ! $ move ! (1 ∷ []) $ use1 W (raw (fact 𝓤 (Lives (i .1 .1 .0) (t .row) m))) (lives (i .1 .1 .0) (t .row) m) $ heard ! (Lives (i .1 .1 .0) (t .row) m) (λ lv. split ! $ move ! (1 ∷ []) $
+          use2 W (raw (Live 𝓤 H A at-mem run .pre (to-live (i .1 .1 .0) (t .under)))) (goes-live (i .1 .1 .0) (t .under) (i .1 .1 .1 .few) (above-corner (i .1 .1 .1) l (enough .3) v) (LL.owed N.the-type N′.the-laws t _ t-is .1 .0 .1)) $
+          calls-at ! (fmOf 𝓤 H (W .laws) 𝓣) (Live 𝓤 H A at-mem run) (known .lives) (to-live (i .1 .1 .0) (t .under)) (and-then ! (load ! (from ! (stop !)) (look ! 42 refl)) (and-then ! (load ! (from ! (stop !)) (look ! 40 refl)) (and-then ! (load ! (from ! (stop !)) (look ! 31 refl)) (and-then ! (load ! (from ! (fld ! refl (stop !))) (look-in ! 29 (sub ! 1 refl (whole !)))) (no-more !))))) (λ u₁.
+          use1 W (later (some (λ (m : ℕ). ((‵ (flft κ₁ q₁) ⊛ ‵ ftrue) ⊛ ‵ (usize .own m (u₁ ∷ []))) ⊛ raw (ensured 𝓤 H A live.ended (live.clauses 𝓤 H A at-mem run) (κ₁, tt) (l-passed (i .1 .1 .0) (t .under)) tt m)))) (id⊢ 𝓤 _) $ await ! tt $ pick ! (λ m.
+          split ! $ move ! (1 ∷ []) $ use1 W (raw (fact 𝓤 (Lives (i .1 .1 .0) (t .under) m))) (lives (i .1 .1 .0) (t .under) m) $ heard ! (Lives (i .1 .1 .0) (t .under) m) (λ lv. split ! $ move ! (1 ∷ []) $
           peeks ! usize (Is usize) (shows 𝓤 H A usize) m (u₁ ∷ []) (λ is₁.
           land ! (from ! (stop !)) (store ! 32 refl (uint-lawful 𝓤 H A W w64 .typed m _ is₁ .0)) $ drop ! $ rewrite ! 31 (λ (z : Val). ‵ (fat fullShare (tyInt w64) l₁₀ 0 z)) (ap only (is₁ .0)) refl $ move ! (2 ∷ 3 ∷ 4 ∷ 5 ∷ 6 ∷ 7 ∷ 8 ∷ []) $
           -- [as before; _21 9; _20 11; _19 13; _18 15; _17 17; …; _12 27; _11 29; _10 31; _9 33; _8 35; (_7's) 37; _6 38; _5 40; …]: `first_containing` is called
           assigns ! (addr ! (from ! (stop !))) (from ! (stop !)) (init ! 15 refl (tt, tt)) $
           assigns ! (agg ! (and-then ! (load ! (from ! (stop !)) (look ! 15 refl)) (and-then ! (big ! (record { fits = lit< tt })) (no-more !)))) (from ! (stop !)) (init ! 13 refl (tt, (tt, (record { fits = lit< tt }, tt)))) $
           move ! (2 ∷ []) $ use1 W (‵ R ⊛ ‵ R) (shr-slice-copy 𝓤 H A W (named 0) (ν ∷ []) T.the-row .twice (lent l₇ δ zs) (sliceVal (l₇, 0) 1024 ∷ [])) $ split ! $ move ! (4 ∷ 0 ∷ []) $
-          use2 W (raw (Find 𝓤 H A at-mem run .pre (to-find m (t .frame)))) (goes-find m (t .frame) (LL.owed N.the-type N′.the-laws t _ t-is .1 .1 .1 .0) (lv .1) (without-above zs (s .now) n m (t .row) (t .frame) ze (lv .1) (lv .2) (v .ends))) $
+          use2 W (raw (Find 𝓤 H A at-mem run .pre (to-find m (t .frame)))) (goes-find m (t .frame) (LL.owed N.the-type N′.the-laws t _ t-is .1 .1 .1 .0) (lv .1) (without-above zs (s .now) n m (t .under) (t .frame) ze (lv .1) (lv .2) (v .ends))) $
           calls-at ! (fmOf 𝓤 H (W .laws) 𝓣) (Find 𝓤 H A at-mem run) (known .finds) (to-find m (t .frame)) (and-then ! (load ! (from ! (stop !)) (look ! 13 refl)) (and-then ! (load ! (from ! (stop !)) (look ! 31 refl)) (and-then ! (load ! (from ! (stop !)) (look ! 40 refl)) (and-then ! (load ! (from ! (fld ! refl (stop !))) (look-in ! 29 (sub ! 3 refl (whole !)))) (no-more !))))) (λ u′.
           use1 W (later (some (λ (k : ℕ). ((‵ (flft (ν ∷ []) fullShare) ⊛ ‵ ftrue) ⊛ ‵ (usize .own k (u′ ∷ []))) ⊛ raw (ensured 𝓤 H A find.ended (find.clauses 𝓤 H A at-mem run) (ν ∷ [], tt) (c-passed m (t .frame)) tt k)))) (id⊢ 𝓤 _) $ await ! tt $ pick ! (λ k.
           split ! $ move ! (1 ∷ []) $ use1 W (raw (fact 𝓤 (k ≡ firstOf (take n zs) (t .frame)))) (first-of m (t .frame) k) $ heard ! (k ≡ firstOf (take n zs) (t .frame)) (λ e. split ! $ move ! (1 ∷ []) $
