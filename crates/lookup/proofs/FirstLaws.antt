@@ -1,28 +1,13 @@
 -- A run of rects that is filled, and searched for the first that contains a frame.
-use mathlib.Core.Path.{_≡_, refl, sym, ap, _∙_}
-use mathlib.Core.Bool.{Bool, true, false}
-use mathlib.Core.List.{List, [], _∷_, _++_, append-assoc}
-use Prim.Native.Nat.{ℕ, suc, _+_, _-_, _≤_, _<_}
-use native.Mathlib.Nat.{sub-zero, zero-add, add-zero}
-use native.Mathlib.Numerals.{add-one}
-use native.Mathlib.Omega.{arith}
-use lib.Dec.{ltb}
-use lib.ListN.{length, getD, set, take, drop, length-append, length-drop}
-use lib.Seq.{drop-cons, set-append-seam, take-at}
-use borrow.Author.Tests.{lt-ltb, le-ltb, ltb-true, ltb-false}
-use Rattle.lists.specs.Answer.{ok, refused}
-use Rattle.lists.specs.Choose.{choose}
-use Rattle.lists.specs.Run.{run}
-use Rattle.lists.proofs.AnswerLaws.{refused-ok}
-use Rattle.lists.proofs.RunLaws.{length-run, build-next}
-use Rattle.lists.proofs.Tests.{by-flag}
-use Rattle.model.specs.Geometry.{containsOf}
-use Rattle.model.specs.Refusals.{Reading}
-use Rattle.model.specs.declared.Rect.{Rect}
-use Rattle.model.specs.declared.Refusal.the-variants.{RegionNotFound}
+use mathlib.Core.{Path._≡_, Path.refl, Path.sym, Path.ap, Path._∙_, Path.subst, Bool.Bool, Bool.true, Bool.false, Bool._&&_, List.List, List.[], List._∷_, List._++_, List.append-assoc}
+use Prim.Native.Nat.{ℕ, zero, suc, _+_, _-_, _≤_, _<_}
+use native.Mathlib.{Nat.sub-zero, Nat.zero-add, Nat.add-zero, Numerals.add-one, Omega.arith}
+use lib.{Dec.ltb, Dec.leb, ListN.length, ListN.getD, ListN.set, ListN.take, ListN.drop, ListN.length-append, ListN.length-drop, Seq.drop-cons, Seq.set-append-seam, Seq.take-at, Seq.getD-take}
+use borrow.Author.Tests.{lt-ltb, le-ltb, ltb-true, ltb-false, leb-true}
+use Rattle.lists.{specs.Answer.ok, specs.Answer.refused, specs.Choose.choose, specs.Run.run, proofs.AnswerLaws.refused-ok, proofs.RunLaws.length-run, proofs.RunLaws.build-next, proofs.RunLaws.getD-build, proofs.Tests.by-flag, proofs.Tests.both}
+use Rattle.model.{specs.Geometry.containsOf, specs.Refusals.Reading, specs.declared.Rect.Rect, specs.declared.Refusal.the-variants.RegionNotFound}
 use Rattle.regions.specs.Rects.{rectAt, rectsOf}
-use Rattle.lookup.specs.Lookup.{regionFrom, regionOf, firstOf}
-use Rattle.lookup.specs.Numbers.{none}
+use Rattle.lookup.specs.{Lookup.regionFrom, Lookup.regionOf, Lookup.firstOf, Numbers.none, Numbers.Above, Numbers.Without}
 
 -- the region of a frame, by the number of the first rect that contains it
 abbrev byNumber : Rect → ℕ → ℕ → ℕ → Reading ℕ
@@ -71,9 +56,6 @@ pub record Searching (f : Rect) (l : List Rect) (n i : ℕ) : Type 0 where
   pub along : i ≤ n
   pub same : i + firstOf (take (n - i) (drop i l)) f ≡ firstOf (take n l) f
 
-pub searching-start : (f : Rect) (l : List Rect) (n : ℕ) → Searching f l n 0
-searching-start f l n = record { along = omega arith; same = rw (sub-zero n, zero-add (firstOf (take n l) f)) }
-
 module _ {f : Rect} {l : List Rect} {n i : ℕ} (q : Searching f l n i) where
   module _ (h : i < n) (g : n ≤ length l) where
     turn : firstOf (take (n - i) (drop i l)) f ≡ choose (containsOf (getD l i none) f) 0 (suc (firstOf (take (n - (i + 1)) (drop (i + 1) l)) f))
@@ -99,6 +81,35 @@ module _ {f : Rect} {l : List Rect} {n i : ℕ} (q : Searching f l n i) where
       let z : n - i ≡ 0 = omega arith in
       let e : i + 0 ≡ firstOf (take n l) f = rw z at (q .same) in
       omega (arith, e, q .along)
+
+-- it may start behind rects that do not contain the frame
+pub searching-start : (f : Rect) (l : List Rect) (n i : ℕ) → i ≤ n → n ≤ length l → Without l i f → Searching f l n i
+searching-start f l n zero h g a = record { along = omega arith; same = rw (sub-zero n, zero-add (firstOf (take n l) f)) }
+searching-start f l n (suc i) h g a =
+    subst (Searching f l n) (add-one i)
+    (searching-more (searching-start f l n i (omega arith) g (λ j b. a j (omega arith))) (omega arith) g (a i (omega arith)))
+
+pub above-next : (d : List ℕ) (n row : ℕ) → Above d n row → rectAt d n .bottom ≤ row → Above d (n + 1) row
+above-next d n row a e j h =
+    by-flag (ltb j n) (λ y. a j (ltb-true j n y))
+    (λ z.
+    let k : n ≡ j = omega (arith, ltb-false j n z) in
+    subst (λ (m : ℕ). rectAt d m .bottom ≤ row) k e)
+
+-- a rect that ends at or above a row contains no frame that ends below it
+above-apart : (r f : Rect) (row : ℕ) → r .bottom ≤ row → row < f .bottom → containsOf r f ≡ false
+above-apart r f row a b =
+    by-flag (containsOf r f)
+    (λ y.
+    let p = both (leb (r .left) (f .left) && leb (r .top) (f .top)) (leb (f .right) (r .right) && leb (f .bottom) (r .bottom)) y in
+    absurd (omega (arith, leb-true (f .bottom) (r .bottom) (both (leb (f .right) (r .right)) (leb (f .bottom) (r .bottom)) (p .1) .1))))
+    (λ n. n)
+
+pub without-above : (l : List Rect) (d : List ℕ) (n i row : ℕ) (f : Rect) → take n l ≡ rectsOf d n → i ≤ n → Above d i row → row < f .bottom → Without l i f
+without-above l d n i row f e few a b j h =
+    let z : rectAt d j ≡ getD l j none =
+    sym (getD-build n (rectAt d) j none (omega arith)) ∙ ap (λ (t : List Rect). getD t j none) (sym e) ∙ getD-take n l j none (omega arith) in
+    subst (λ (r : Rect). containsOf r f ≡ false) z (above-apart (rectAt d j) f row (a j h) b)
 
 -- a run whose first i rects are those of a slice of numbers
 abbrev pub filled : List Rect → List ℕ → ℕ → List Rect

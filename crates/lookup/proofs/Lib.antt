@@ -2,5 +2,4 @@
 pub mod FirstLaws
 pub mod NumberLaws
 mod Rows
-mod Big
 mod Again

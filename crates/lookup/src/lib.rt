@@ -12,7 +12,19 @@ ghost use Rattle.regions.specs.Rects.{rectAt, rectsOf, Layer};
 ghost use Rattle.walks.specs.Frame.{frameOf};
 ghost use Rattle.walks.specs.Kinds.{grid};
 ghost use Rattle.lookup.specs.Lookup.{firstOf, Numbered};
-ghost use Rattle.lookup.specs.Numbers.{NextCorner, numberIn, Seen, Stored};
+ghost use Rattle.lookup.specs.Numbers.{Above, NextCorner, numberIn, Seen, Stored, Without};
+
+// The rect of four numbers.
+fn rect_of(left: u32, top: u32, right: u32, bottom: u32) -> Rect
+    ensures { λ r. ⌜ r ≡ record { left = left; top = top; right = right; bottom = bottom } ⌝ }
+{
+    Rect {
+        left: left as usize,
+        top: top as usize,
+        right: right as usize,
+        bottom: bottom as usize,
+    }
+}
 
 // Rect k of a slice of numbers.
 fn rect_at(nums: &[u32], k: usize) -> Rect
@@ -20,12 +32,7 @@ fn rect_at(nums: &[u32], k: usize) -> Rect
     ensures { λ r. ⌜ r ≡ rectAt (now (nums .entry)) k ⌝ }
 {
     let p = k * 4;
-    Rect {
-        left: nums[p] as usize,
-        top: nums[p + 1] as usize,
-        right: nums[p + 2] as usize,
-        bottom: nums[p + 3] as usize,
-    }
+    rect_of(nums[p], nums[p + 1], nums[p + 2], nums[p + 3])
 }
 
 // The first `count` rects, in row order.
@@ -41,12 +48,28 @@ fn fill(rects: &mut [Rect], nums: &[u32], count: usize)
     }
 }
 
-// The number of the first of `count` rects that contains a frame, or `count`.
-fn first_containing(rects: &[Rect], count: usize, frame: Rect) -> usize
-    requires { ⌜ count ≤ length (now rects) ⌝ }
+// The first of `count` rects from `from` on that ends below a row, or `count`.
+fn live(nums: &[u32], count: usize, from: usize, row: usize) -> usize
+    requires { ⌜ (from ≤ count) × (count * 4 ≤ length (now nums)) × Above (now nums) from row ⌝ }
+    ensures { λ r. ⌜ (from ≤ r) × (r ≤ count) × Above (now (nums .entry)) r row ⌝ }
+{
+    let mut at = from;
+    while at < count {
+        let r = rect_at(nums, at);
+        if row < r.bottom {
+            return at;
+        }
+        at += 1;
+    }
+    at
+}
+
+// The number of the first of `count` rects that contains a frame, or `count`. None before `from` does.
+fn first_containing(rects: &[Rect], from: usize, count: usize, frame: Rect) -> usize
+    requires { ⌜ (from ≤ count) × (count ≤ length (now rects)) × Without (now rects) from frame ⌝ }
     ensures { λ r. ⌜ r ≡ firstOf (take count (now (rects .entry))) frame ⌝ }
 {
-    let mut i: usize = 0;
+    let mut i = from;
     while i < count {
         let r = rects[i];
         if r.contains(frame) {
@@ -57,9 +80,10 @@ fn first_containing(rects: &[Rect], count: usize, frame: Rect) -> usize
     count
 }
 
-// A corner of GRID, and the frame that starts there.
+// A corner of GRID, the row under it, and the frame that starts there.
 struct Sought {
     at: usize,
+    under: usize,
     framed: bool,
     frame: Rect,
 }
@@ -79,34 +103,39 @@ fn next_corner(layer: &[u32], size: usize, i: usize) -> usize
     size
 }
 
-// That corner, with its frame.
+// That corner, with its frame. Where there is none, some rect that ends below the row under the corner, as a frame does.
 fn seek(layer: &[u32], w: usize, h: usize, i: usize) -> Sought
     requires { ⌜ Layer w h (length (now layer)) × (i < h * w) ⌝ }
     ensures { λ r. ⌜ Seen (frameOf grid (canvas w h (now (layer .entry))) w h) (now (layer .entry)) w (h * w) i r ⌝ }
 {
-    let nowhere = Rect {
-        left: 0,
-        top: 0,
-        right: 0,
-        bottom: 0,
-    };
     let size = h * w;
     let at = next_corner(layer, size, i);
+    let row = at / w;
+    let under = row + 1;
+    let nowhere = Rect {
+        left: 0,
+        top: row,
+        right: 0,
+        bottom: under + 1,
+    };
     if size <= at {
         return Sought {
             at,
+            under,
             framed: false,
             frame: nowhere,
         };
     }
-    match frames::recognize_rectangle(layer, w, h, at % w, at / w) {
+    match frames::recognize_rectangle(layer, w, h, at % w, row) {
         Framed::Closed(f) => Sought {
             at,
+            under,
             framed: true,
             frame: f,
         },
         Framed::NotFramed(_) => Sought {
             at,
+            under,
             framed: false,
             frame: nowhere,
         },
@@ -154,9 +183,11 @@ pub fn number_frames(
     fill(&mut rects, nums, count);
     let size = h * w;
     let mut i: usize = 0;
+    let mut from: usize = 0;
     while i < size {
         let s = seek(layer, w, h, i);
-        let k = first_containing(&rects, count, s.frame);
+        from = live(nums, count, from, s.under);
+        let k = first_containing(&rects, from, count, s.frame);
         i = put_number(found, s, k, count, size);
     }
 }

@@ -2,9 +2,8 @@
 use mathlib.Core.Path.{sym, _∙_}
 use Prim.Native.Nat.{_-_}
 use Rattle.lookup.specs.Numbers.{NextCorner}
-use Rattle.lookup.proofs.NumberLaws.{corner-start, corner-more, corner-end}
+use Rattle.lookup.proofs.{NumberLaws.corner-start, NumberLaws.corner-more, NumberLaws.corner-end, next_corner.Statement.statement}
 use borrow.Author.Needs.{needs}
-use Rattle.lookup.proofs.next_corner.Statement.{statement}
 use Rattle.lookup.proofs.next_corner.Tie as tie
 
 abbrev Inv-loop : tie.InvT-loop
@@ -16,23 +15,8 @@ abbrev μ-loop : tie.MeasureT-loop
 loop-holds : tie.Need-loop-holds Inv-loop μ-loop
 loop-holds c = corner-start _ _ _ (c .before .pre .0)
 
-mul-is-corner : tie.Need-mul-is-corner Inv-loop μ-loop
-mul-is-corner c = search needs
-
-shared-slice-read-is-corner : tie.Need-shared-slice-read-is-corner Inv-loop μ-loop
-shared-slice-read-is-corner c = search needs
-
-is-corner-requires : tie.Need-is-corner-requires Inv-loop μ-loop
-is-corner-requires c κs = search needs
-
 returns : tie.Need-returns Inv-loop μ-loop
 returns c = c .before .before .before .before .loop .inv
-
-add-k : tie.Need-add-k Inv-loop μ-loop
-add-k c = search needs
-
-loop-less : tie.Need-loop-less Inv-loop μ-loop
-loop-less c = search needs
 
 loop-again : tie.Need-loop-again Inv-loop μ-loop
 loop-again c =
@@ -45,15 +29,4 @@ returns-2 c = corner-end (c .before .loop .inv) (c .loop-test .left)
 pub next-corner-spec : {M : Type 1} → statement M
 next-corner-spec =
     tie.close
-    (tie.spec
-    Inv-loop
-    μ-loop
-    loop-holds
-    mul-is-corner
-    shared-slice-read-is-corner
-    is-corner-requires
-    returns
-    add-k
-    loop-less
-    loop-again
-    returns-2)
+    (tie.spec Inv-loop μ-loop loop-holds (λ c. search needs) (λ c. search needs) (λ c κs. search needs) returns (λ c. search needs) (λ c. search needs) loop-again returns-2)

@@ -3,33 +3,17 @@ use mathlib.Core.Path.{refl, ap}
 use lib.ListN.{set}
 use Prim.Native.Nat.{ℕ}
 use native.Mathlib.Omega.{arith}
-use Rattle.lookup.proofs.NumberLaws.{number-small}
+use Rattle.lookup.proofs.{NumberLaws.number-small, put_number.Statement.statement}
 use borrow.Author.Needs.{needs}
-use Rattle.lookup.proofs.put_number.Statement.{statement}
 use Rattle.lookup.proofs.put_number.Tie as tie
 
 returns : tie.Need-returns
 returns c = record { put = λ l. absurd (omega (arith, c .if1 .taken)); past = λ l. (refl, refl) }
 
-number-in-requires : tie.Need-number-in-requires
-number-in-requires c κs = search needs
-
 cast-found : tie.Need-cast-found
 cast-found c =
     let t = c .before .before .before in
     omega (arith, c .number-in .ensures, number-small (t .args .s) (t .args .k) (t .args .count) (t .pre .1) (t .pre .2))
-
-mul-found : tie.Need-mul-found
-mul-found c = search needs
-
-slice-write-found : tie.Need-slice-write-found
-slice-write-found c = search needs
-
-add-result : tie.Need-add-result
-add-result c = search needs
-
-same-length : tie.Need-same-length
-same-length c = search needs
 
 returns-2 : tie.Need-returns-2
 returns-2 c =
@@ -40,12 +24,4 @@ returns-2 c =
 pub put-number-spec : {M : Type 1} → statement M
 put-number-spec =
     tie.close
-    (tie.spec
-    returns
-    number-in-requires
-    cast-found
-    mul-found
-    slice-write-found
-    add-result
-    same-length
-    returns-2)
+    (tie.spec returns (λ c κs. search needs) cast-found (λ c. search needs) (λ c. search needs) (λ c. search needs) (λ c. search needs) returns-2)
