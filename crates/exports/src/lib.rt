@@ -1,43 +1,10 @@
 // The three entries for programs in C or Rust: a slice is a pointer and a count, an outcome is numbers.
-use model::Refusal;
-use records::Outcome;
-use utils::Split;
+use numbers::Answer;
+use numbers::SplitAnswer;
 ghost use mathlib.Core.List.{[], _∷_};
 ghost use mathlib.Core.Path.{_≡_};
 ghost use Rattle.builder.specs.Entries.{sheetEnd, lentEnd};
-ghost use Rattle.exports.specs.Answers.{refusalAnswer, answerOf, splitAnswer, SplitTold};
-
-// n = 0 and a record of `a` bytes, or a refusal's N, A and B.
-#[repr(C)]
-pub struct Answer {
-    pub n: u64,
-    pub a: u64,
-    pub b: u64,
-}
-
-fn refusal_answer(r: Refusal) -> Answer
-    ensures { λ x. ⌜ x ≡ refusalAnswer r ⌝ }
-{
-    let x = model::refusal_numbers(r);
-    Answer {
-        n: x.n,
-        a: x.a,
-        b: x.b,
-    }
-}
-
-fn outcome_answer(o: Outcome) -> Answer
-    ensures { λ x. ⌜ x ≡ answerOf o ⌝ }
-{
-    match o {
-        Outcome::Record(total) => Answer {
-            n: 0,
-            a: total as u64,
-            b: 0,
-        },
-        Outcome::Refused(r) => refusal_answer(r),
-    }
-}
+ghost use Rattle.numbers.specs.Answers.{answerOf, SplitTold};
 
 // The whole reader.
 #[no_mangle]
@@ -71,7 +38,7 @@ pub extern "C" fn fezandimo_read_sheet(
         scratch,
         out,
     );
-    outcome_answer(o)
+    numbers::outcome_answer(o)
 }
 
 // The table from a lent plane.
@@ -108,57 +75,7 @@ pub extern "C" fn fezandimo_read_lent_plane(
         scratch,
         out,
     );
-    outcome_answer(o)
-}
-
-// A refusal's N, A and B; or n = 0, and whether the values are rewritten: so many bytes of the scratch slice are then the
-// allowed values, and the text's bytes between two places the default.
-#[repr(C)]
-pub struct SplitAnswer {
-    pub n: u64,
-    pub a: u64,
-    pub b: u64,
-    pub rewritten: u64,
-    pub length: usize,
-    pub from: usize,
-    pub to: usize,
-}
-
-fn split_numbers(s: Split) -> SplitAnswer
-    ensures { λ x. ⌜ x ≡ splitAnswer s ⌝ }
-{
-    match s {
-        Split::Own => SplitAnswer {
-            n: 0,
-            a: 0,
-            b: 0,
-            rewritten: 0,
-            length: 0,
-            from: 0,
-            to: 0,
-        },
-        Split::Rewritten(length, from, to) => SplitAnswer {
-            n: 0,
-            a: 0,
-            b: 0,
-            rewritten: 1,
-            length,
-            from,
-            to,
-        },
-        Split::NotSplit(r) => {
-            let x = model::refusal_numbers(r);
-            SplitAnswer {
-                n: x.n,
-                a: x.a,
-                b: x.b,
-                rewritten: 0,
-                length: 0,
-                from: 0,
-                to: 0,
-            }
-        }
-    }
+    numbers::outcome_answer(o)
 }
 
 // The value split.
@@ -167,5 +84,5 @@ pub extern "C" fn fezandimo_split_values(text: &[u8], scratch: &mut [u8]) -> Spl
     ensures { λ r. ⌜ SplitTold r (now (text .entry)) (now (scratch .entry)) (now (scratch .exit)) ⌝ }
 {
     let s = utils::split_values(text, scratch);
-    split_numbers(s)
+    numbers::split_numbers(s)
 }

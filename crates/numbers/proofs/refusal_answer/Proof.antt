@@ -1,7 +1,7 @@
--- `exports::refusal_answer` meets its contract.
+-- `numbers::refusal_answer` meets its contract.
 use borrow.Author.Needs.{needs}
-use Rattle.exports.proofs.refusal_answer.Statement.{statement}
-use Rattle.exports.proofs.refusal_answer.Tie as tie
+use Rattle.numbers.proofs.refusal_answer.Statement.{statement}
+use Rattle.numbers.proofs.refusal_answer.Tie as tie
 
 refusal-numbers-requires : tie.Need-refusal-numbers-requires
 refusal-numbers-requires c κs = search needs

@@ -1,9 +1,9 @@
--- `exports::outcome_answer` meets its contract.
+-- `numbers::outcome_answer` meets its contract.
 use mathlib.Core.Path.{sym, ap, _∙_}
-use Rattle.exports.specs.Answers.{answerOf}
+use Rattle.numbers.specs.Answers.{answerOf}
 use borrow.Author.Needs.{needs}
-use Rattle.exports.proofs.outcome_answer.Statement.{statement}
-use Rattle.exports.proofs.outcome_answer.Tie as tie
+use Rattle.numbers.proofs.outcome_answer.Statement.{statement}
+use Rattle.numbers.proofs.outcome_answer.Tie as tie
 
 enum-known-o : tie.Need-enum-known-o
 enum-known-o c = search needs

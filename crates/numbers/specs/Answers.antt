@@ -10,8 +10,8 @@ use Rattle.utils.specs.declared.Split.{Split}
 use Rattle.utils.specs.declared.Split.the-variants.{Own, Rewritten, NotSplit}
 use Rattle.records.specs.declared.Outcome.{Outcome}
 use Rattle.records.specs.declared.Outcome.the-variants.{Record, Refused}
-use Rattle.exports.specs.declared.Answer.{Answer}
-use Rattle.exports.specs.declared.SplitAnswer.{SplitAnswer}
+use Rattle.numbers.specs.declared.Answer.{Answer}
+use Rattle.numbers.specs.declared.SplitAnswer.{SplitAnswer}
 
 -- N, A and B
 abbrev pub refusalAnswer : Refusal → Answer

@@ -1,9 +1,9 @@
--- `exports::split_numbers` meets its contract.
+-- `numbers::split_numbers` meets its contract.
 use mathlib.Core.Path.{sym, ap}
-use Rattle.exports.specs.Answers.{splitAnswer}
+use Rattle.numbers.specs.Answers.{splitAnswer}
 use borrow.Author.Needs.{needs}
-use Rattle.exports.proofs.split_numbers.Statement.{statement}
-use Rattle.exports.proofs.split_numbers.Tie as tie
+use Rattle.numbers.proofs.split_numbers.Statement.{statement}
+use Rattle.numbers.proofs.split_numbers.Tie as tie
 
 enum-told : tie.Need-enum-told
 enum-told c = search needs
