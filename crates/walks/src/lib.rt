@@ -63,7 +63,11 @@ fn next(back: bool, p: usize, step: usize) -> usize
     if back { p - step } else { p + step }
 }
 
-// Over `count` characters of a layer from `at`, which itself is not looked at.
+// More than any character.
+const NO_CHARACTER: u64 = 0x1_0000_0000;
+
+// Over `count` characters of a layer from `at`, which itself is not looked at. The last character that was tested and passed is kept, and
+// passed again with no test: a side is a long run of one.
 fn walk_line(
     layer: &[u32],
     back: bool,
@@ -78,15 +82,19 @@ fn walk_line(
 {
     let mut p = at;
     let mut k = 0;
+    let mut kept = NO_CHARACTER;
     while k < count {
         p = next(back, p, step);
         k += 1;
         let code = layer[p];
-        if one_of(searched, code) {
-            return Walked::Steps(k);
-        }
-        if !one_of(allowed, code) {
-            return Walked::Stopped(Refusal::CharacterNotAllowed(code));
+        if code as u64 != kept {
+            if one_of(searched, code) {
+                return Walked::Steps(k);
+            }
+            if !one_of(allowed, code) {
+                return Walked::Stopped(Refusal::CharacterNotAllowed(code));
+            }
+            kept = code as u64;
         }
     }
     Walked::Stopped(Refusal::CharactersNotFound(first(searched)))
