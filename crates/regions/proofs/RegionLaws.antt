@@ -6,12 +6,13 @@ use Prim.Native.Nat.{ℕ, _+_, _-_, _*_, _/_, _%_, _≤_, _<_}
 use native.Mathlib.Nat.{sub-zero}
 use native.Mathlib.Omega.{arith}
 use lib.ListN.{length, length-append}
-use borrow.Author.Tests.{lt-ltb, le-ltb}
-use Rattle.lists.specs.Answer.{ok, refused, _>>=_, each, those}
+use lib.Dec.{ltb}
+use borrow.Author.Tests.{lt-ltb, le-ltb, ltb-true}
+use Rattle.lists.specs.Answer.{ok, refused, _>>=_, each, those, Below}
 use Rattle.lists.specs.Choose.{choose}
 use Rattle.lists.specs.Picture.{Picture, at}
 use Rattle.lists.specs.Run.{run}
-use Rattle.lists.proofs.AnswerLaws.{refused-ok, those-next, turn-on, turn-out, turn-end}
+use Rattle.lists.proofs.AnswerLaws.{refused-ok, then-ok, those-next, turn-on, turn-out, turn-end, each-below}
 use Rattle.lists.proofs.PlaceLaws.{columns, column-in, row-in}
 use Rattle.lists.proofs.RunLaws.{length-run}
 use Rattle.model.specs.Limits.{regionCount}
@@ -23,6 +24,7 @@ use Rattle.walks.specs.Frame.{Kind, Place, rectOf, frameOf}
 use Rattle.walks.proofs.FrameLaws.{accepted}
 use Rattle.regions.specs.Rects.{rectAt, rectsOf, regionsIn, Small, Layer}
 use Rattle.regions.specs.Regions.{Finder, isCorner, cornersOf, addRegion, regionsBy}
+use Rattle.regions.specs.Within.{addWithin}
 use Rattle.regions.specs.declared.Counted.{Counted}
 use Rattle.regions.specs.declared.Counted.the-variants.{Regions, NotCounted}
 
@@ -81,73 +83,83 @@ frame-small K p w h x y len r L P e =
     } in
     subst Small (sym (F .is)) s
 
--- a region more takes the place of a corner
-room-next : (t : Bool) (m : Reading Rect) (rs rs' : List Rect) (k : List ℕ) (i lim : ℕ)
-    → choose t (_>>=_ m (λ r. ok (rs ++ (r ∷ [])))) (ok rs) ≡ ok rs' → length rs + length (choose t (i ∷ k) k) ≤ lim → length rs' + length k ≤ lim
-room-next true (ok r) rs rs' k i lim e h =
-    let z : rs ++ (r ∷ []) ≡ rs' = cc in
-    let q : length rs' ≡ length rs + 1 = ap length (sym z) ∙ length-append rs (r ∷ []) in
-    omega arith
-room-next true (refused r) rs rs' k i lim e h = refused-ok e
-room-next false m rs rs' k i lim e h =
-    let z : rs ≡ rs' = cc in
-    let q : length rs' ≡ length rs = ap length (sym z) in
-    omega arith
-
 -- the regions of the corners before place i are added, which are n
 pub record Adding (find : Finder) (p : Picture) (w h : ℕ) (d out : List ℕ) (i n : ℕ) : Type 0 where
   pub along : i ≤ h * w
-  pub lim : ℕ
-  pub room : n + length (left p w h i) ≤ lim
-  pub slice : lim * 4 ≤ length d
-  pub same : each (addRegion find w) (left p w h i) (rectsOf out n) ≡ each (addRegion find w) (cornersOf p w h) []
+  pub same : each (addWithin find w) (left p w h i) (rectsOf out n) ≡ each (addWithin find w) (cornersOf p w h) []
   pub long : length out ≡ length d
 
-pub adding-start : (find : Finder) (p : Picture) (w h : ℕ) (d : List ℕ) → length (cornersOf p w h) * 4 ≤ length d → Adding find p w h d d 0 0
+pub adding-start : (find : Finder) (p : Picture) (w h : ℕ) (d : List ℕ) → Adding find p w h d d 0 0
 unfolding run
-adding-start find p w h d r =
-    record {
-      along = omega arith;
-      lim = length (cornersOf p w h);
-      room = omega (arith, ap length (start-left p w h));
-      slice = r;
-      same = ap (λ (l : List ℕ). each (addRegion find w) l []) (start-left p w h);
-      long = refl;
-    }
+adding-start find p w h d =
+    record { along = omega arith; same = ap (λ (l : List ℕ). each (addWithin find w) l []) (start-left p w h); long = refl }
 
 module _ {find : Finder} {p : Picture} {w h : ℕ} {d out : List ℕ} {i n : ℕ} (q : Adding find p w h d out i n) where
-  module _ (l : i < h * w) where
-    -- a corner's region has room
-    pub adding-room : cornerAt p w i ≡ true → n * 4 + 4 ≤ length out
-    adding-room e =
-        let a : left p w h i ≡ i ∷ left p w h (i + 1) = those-next (cornerAt p w) i (h * w) l ∙ rw e in
-        let m = ap length a in
-        omega (arith, q .room, q .slice, q .long)
+  module _ (l : i < h * w) (r : Counted) (o : List ℕ) (e : regionsIn r o ≡ choose (cornerAt p w i) (addWithin find w i (rectsOf out n)) (ok (rectsOf out n))) where
+    pub adding-more : (m : ℕ) → r ≡ Regions m → length o ≡ length out → Adding find p w h d o (i + 1) m
+    adding-more m f k =
+        record {
+          along = omega arith;
+          same = sym (turn-on (addWithin find w) (cornerAt p w) i (h * w) (rectsOf out n) (rectsOf o m) l (sym e ∙ ap (λ (x : Counted). regionsIn x o) f)) ∙ q .same;
+          long = k ∙ q .long;
+        }
 
-    module _ (r : Counted) (o : List ℕ) (e : regionsIn r o ≡ choose (cornerAt p w i) (addRegion find w i (rectsOf out n)) (ok (rectsOf out n))) where
-      pub adding-more : (m : ℕ) → r ≡ Regions m → length o ≡ length out → Adding find p w h d o (i + 1) m
-      adding-more m f k =
-          let g : choose (cornerAt p w i) (addRegion find w i (rectsOf out n)) (ok (rectsOf out n)) ≡ ok (rectsOf o m) =
-          sym e ∙ ap (λ (x : Counted). regionsIn x o) f in
-          let a = length-run (rectAt out) 0 n in
-          let b = length-run (rectAt o) 0 m in
-          let s = rw (those-next (cornerAt p w) i (h * w) l) at (q .room) in
-          let t = room-next (cornerAt p w i) (find (i % w) (i / w)) (rectsOf out n) (rectsOf o m) (left p w h (i + 1)) i (q .lim) g (rw a s) in
-          record {
-            along = omega arith;
-            lim = q .lim;
-            room = rw b at t;
-            slice = q .slice;
-            same = sym (turn-on (addRegion find w) (cornerAt p w) i (h * w) (rectsOf out n) (rectsOf o m) l g) ∙ q .same;
-            long = k ∙ q .long;
-          }
+    pub adding-out : (f : Refusal) → r ≡ NotCounted f → refused f ≡ each (addWithin find w) (cornersOf p w h) []
+    adding-out f g =
+        sym (turn-out (addWithin find w) (cornerAt p w) i (h * w) (rectsOf out n) f l (sym e ∙ ap (λ (x : Counted). regionsIn x o) g)) ∙ q .same
 
-      pub adding-out : (f : Refusal) → r ≡ NotCounted f → refused f ≡ each (addRegion find w) (cornersOf p w h) []
-      adding-out f g =
-          sym (turn-out (addRegion find w) (cornerAt p w) i (h * w) (rectsOf out n) f l (sym e ∙ ap (λ (x : Counted). regionsIn x o) g)) ∙ q .same
+  pub adding-end : h * w ≤ i → ok (rectsOf out n) ≡ each (addWithin find w) (cornersOf p w h) []
+  adding-end l = sym (turn-end (addWithin find w) (cornerAt p w) i (h * w) (rectsOf out n) l) ∙ q .same
 
-  pub adding-end : h * w ≤ i → ok (rectsOf out n) ≡ each (addRegion find w) (cornersOf p w h) []
-  adding-end l = sym (turn-end (addRegion find w) (cornerAt p w) i (h * w) (rectsOf out n) l) ∙ q .same
+-- a step where there is room, and where there is none
+module _ (find : Finder) (w i : ℕ) (d : List ℕ) (n : ℕ) where
+  pub has-room : n < regionCount → addWithin find w i (rectsOf d n) ≡ addRegion find w i (rectsOf d n)
+  has-room l = rw (length-run (rectAt d) 0 n, lt-ltb n regionCount l)
+
+  pub no-room : regionCount ≤ n → addWithin find w i (rectsOf d n) ≡ refused OverLimit
+  no-room l = rw (length-run (rectAt d) 0 n, le-ltb n regionCount l)
+
+module _ (find : Finder) (w : ℕ) where
+  -- what was added within the limit is added without it
+  step-below : (t : Bool) (m : Reading (List Rect)) → Below (choose t m (refused OverLimit)) m
+  step-below true m = λ a e. e
+  step-below false m = λ a e. refused-ok e
+
+  within-below : (cs : List ℕ) (rs : List Rect) → Below (each (addWithin find w) cs rs) (each (addRegion find w) cs rs)
+  within-below = each-below (addWithin find w) (addRegion find w) (λ i rs. step-below (ltb (length rs) regionCount) (addRegion find w i rs))
+
+  one-more : (t : Bool) (m : Reading Rect) (rs rs' : List Rect) → choose t (_>>=_ m (λ r. ok (rs ++ (r ∷ [])))) (refused OverLimit) ≡ ok rs'
+      → (t ≡ true) × (length rs' ≡ length rs + 1)
+  one-more true (ok r) rs rs' e =
+      let z : rs ++ (r ∷ []) ≡ rs' = cc in
+      (refl, ap length (sym z) ∙ length-append rs (r ∷ []))
+  one-more true (refused r) rs rs' e = refused-ok e
+  one-more false m rs rs' e = refused-ok e
+
+  -- and the corners were no more than there may be regions
+  within-few : (cs : List ℕ) (rs rs' : List Rect) → each (addWithin find w) cs rs ≡ ok rs' → length rs ≤ regionCount → length rs + length cs ≤ regionCount
+  unfolding each
+  within-few [] rs rs' e h = omega arith
+  within-few (i ∷ cs) rs rs' e h =
+      let s = then-ok (addWithin find w i rs) (each (addWithin find w) cs) rs' e in
+      let o = one-more (ltb (length rs) regionCount) (find (i % w) (i / w)) rs (s .0) (s .1) in
+      let l : length rs < regionCount = ltb-true (length rs) regionCount (o .0) in
+      let k = within-few cs (s .0) rs' (s .2) (omega (arith, o .1)) in
+      omega (arith, o .1)
+
+  -- where the corners are few enough the limit changes nothing
+  on : (m : Reading Rect) (cs : List ℕ) (rs : List Rect) → ((r : Rect) → each (addWithin find w) cs (rs ++ (r ∷ [])) ≡ each (addRegion find w) cs (rs ++ (r ∷ [])))
+      → _>>=_ (_>>=_ m (λ r. ok (rs ++ (r ∷ [])))) (each (addWithin find w) cs) ≡ _>>=_ (_>>=_ m (λ r. ok (rs ++ (r ∷ [])))) (each (addRegion find w) cs)
+  on (ok r) cs rs h = h r
+  on (refused r) cs rs h = refl
+
+  few-within : (cs : List ℕ) (rs : List Rect) → length rs + length cs ≤ regionCount → each (addWithin find w) cs rs ≡ each (addRegion find w) cs rs
+  unfolding each
+  few-within [] rs h = refl
+  few-within (i ∷ cs) rs h =
+      let l : length rs < regionCount = omega arith in
+      rw (lt-ltb (length rs) regionCount l)
+      (on (find (i % w) (i / w)) cs rs (λ r. few-within cs (rs ++ (r ∷ [])) (let k = length-append rs (r ∷ []) in omega arith)))
 
 -- more corners than there may be regions
 module _ (find : Finder) (p : Picture) (w h : ℕ) where
@@ -158,3 +170,11 @@ module _ (find : Finder) (p : Picture) (w h : ℕ) where
   pub few-enough : length (cornersOf p w h) ≤ regionCount → each (addRegion find w) (cornersOf p w h) [] ≡ regionsBy find p w h
   unfolding regionsBy
   few-enough l = rw (le-ltb regionCount (length (cornersOf p w h)) l)
+
+  pub within-all : (rs : List Rect) → ok rs ≡ each (addWithin find w) (cornersOf p w h) [] → ok rs ≡ regionsBy find p w h
+  within-all rs e =
+      let l = within-few find w (cornersOf p w h) [] rs (sym e) (omega arith) in
+      sym (within-below find w (cornersOf p w h) [] rs (sym e)) ∙ few-enough (omega arith)
+
+  pub within-out : (r : Refusal) → length (cornersOf p w h) ≤ regionCount → refused r ≡ each (addWithin find w) (cornersOf p w h) [] → refused r ≡ regionsBy find p w h
+  within-out r l e = e ∙ few-within find w (cornersOf p w h) [] (omega arith) ∙ few-enough l

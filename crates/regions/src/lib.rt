@@ -5,10 +5,9 @@ use model::box_drawing::*;
 use model::limits::REGIONS;
 use walks::Framed;
 ghost use mathlib.Core.Path.{_≡_};
-ghost use mathlib.Core.Bool.{true};
 ghost use mathlib.Core.List.{[], _∷_, _++_};
 ghost use Prim.Native.Nat.{_+_, _*_, _<_, _≤_};
-ghost use lib.ListN.{length, getD};
+ghost use lib.ListN.{length};
 ghost use Rattle.lists.specs.Answer.{ok, each};
 ghost use Rattle.lists.specs.Choose.{choose};
 ghost use Rattle.lists.specs.Picture.{canvas, at};
@@ -17,6 +16,7 @@ ghost use Rattle.walks.specs.Frame.{frameOf};
 ghost use Rattle.walks.specs.Kinds.{thin};
 ghost use Rattle.regions.specs.Regions.{isCorner, cornersOf, addRegion, regionsOf};
 ghost use Rattle.regions.specs.Rects.{rectsOf, regionsIn, Small, Layer};
+ghost use Rattle.regions.specs.Within.{addWithin};
 
 // So many regions stand in the slice, or why they cannot.
 pub enum Counted {
@@ -80,34 +80,30 @@ fn add_region(layer: &[u32], w: usize, h: usize, i: usize, rects: &mut [u32], n:
     }
 }
 
-// The same where a corner stands there; else the regions are those so far.
-fn add_if_corner(
-    layer: &[u32],
-    w: usize,
-    h: usize,
-    i: usize,
-    rects: &mut [u32],
-    n: usize,
-) -> Counted
-    requires { ⌜ Layer w h (length (now layer)) × (i < h * w) × (isCorner (getD (now layer) i 0) ≡ true → n * 4 + 4 ≤ length (now rects)) ⌝ }
-    ensures { λ r. ⌜ regionsIn r (now (rects .exit)) ≡ choose (isCorner (at (canvas w h (now (layer .entry))) w i)) (addRegion (frameOf thin (canvas w h (now (layer .entry))) w h) w i (rectsOf (now (rects .entry)) n)) (ok (rectsOf (now (rects .entry)) n)) ⌝ }
+// The same where a corner stands there, if there may be one more; else the regions are those so far.
+fn add_within(layer: &[u32], w: usize, h: usize, i: usize, rects: &mut [u32], n: usize) -> Counted
+    requires { ⌜ Layer w h (length (now layer)) × (i < h * w) × (regionCount * 4 ≤ length (now rects)) ⌝ }
+    ensures { λ r. ⌜ regionsIn r (now (rects .exit)) ≡ choose (isCorner (at (canvas w h (now (layer .entry))) w i)) (addWithin (frameOf thin (canvas w h (now (layer .entry))) w h) w i (rectsOf (now (rects .entry)) n)) (ok (rectsOf (now (rects .entry)) n)) ⌝ }
 {
     if is_corner(layer[i]) {
+        if REGIONS <= n {
+            return Counted::NotCounted(Refusal::OverLimit);
+        }
         return add_region(layer, w, h, i, rects, n);
     }
     Counted::Regions(n)
 }
 
-// The regions of a layer whose corners were counted.
-fn all_regions(layer: &[u32], w: usize, h: usize, rects: &mut [u32]) -> Counted
-    requires { ⌜ Layer w h (length (now layer)) × (length (cornersOf (canvas w h (now layer)) w h) * 4 ≤ length (now rects)) ⌝ }
-    ensures { λ r. ⌜ regionsIn r (now (rects .exit)) ≡ each (addRegion (frameOf thin (canvas w h (now (layer .entry))) w h) w) (cornersOf (canvas w h (now (layer .entry))) w h) [] ⌝ }
+// The regions of a layer, as many as there may be.
+fn regions_within(layer: &[u32], w: usize, h: usize, rects: &mut [u32]) -> Counted
+    requires { ⌜ Layer w h (length (now layer)) × (regionCount * 4 ≤ length (now rects)) ⌝ }
+    ensures { λ r. ⌜ regionsIn r (now (rects .exit)) ≡ each (addWithin (frameOf thin (canvas w h (now (layer .entry))) w h) w) (cornersOf (canvas w h (now (layer .entry))) w h) [] ⌝ }
 {
     let size = h * w;
     let mut i = 0;
     let mut n = 0;
     while i < size {
-        n = match add_if_corner(layer, w, h, i, rects, n) {
+        n = match add_within(layer, w, h, i, rects, n) {
             Counted::Regions(m) => m,
             Counted::NotCounted(r) => return Counted::NotCounted(r),
         };
@@ -116,13 +112,18 @@ fn all_regions(layer: &[u32], w: usize, h: usize, rects: &mut [u32]) -> Counted
     Counted::Regions(n)
 }
 
-// The regions of a layer of w columns and h rows.
+// The regions of a layer of w columns and h rows. Corners are counted only where a refusal asks whether they are too many.
 pub fn regions(layer: &[u32], w: usize, h: usize, rects: &mut [u32]) -> Counted
     requires { ⌜ Layer w h (length (now layer)) × (regionCount * 4 ≤ length (now rects)) ⌝ }
     ensures { λ r. ⌜ regionsIn r (now (rects .exit)) ≡ regionsOf (canvas w h (now (layer .entry))) w h ⌝ }
 {
-    if REGIONS < count_corners(layer, w, h) {
-        return Counted::NotCounted(Refusal::OverLimit);
+    match regions_within(layer, w, h, rects) {
+        Counted::Regions(n) => Counted::Regions(n),
+        Counted::NotCounted(r) => {
+            if REGIONS < count_corners(layer, w, h) {
+                return Counted::NotCounted(Refusal::OverLimit);
+            }
+            Counted::NotCounted(r)
+        }
     }
-    all_regions(layer, w, h, rects)
 }

@@ -58,7 +58,21 @@ fn next(back: bool, p: usize, step: usize) -> usize
     if back { p - step } else { p + step }
 }
 
-// Over `count` characters of a layer from `at`, which itself is not looked at.
+// The same. Four, as most corners have, are compared at once.
+fn among(codes: &[u32], code: u32) -> bool
+    ensures { λ r. ⌜ r ≡ oneOf code (now (codes .entry)) ⌝ }
+{
+    if codes.len() == 4 {
+        return (code == codes[0]) | (code == codes[1]) | (code == codes[2]) | (code == codes[3]);
+    }
+    one_of(codes, code)
+}
+
+// More than any character.
+const NO_CHARACTER: u64 = 0x1_0000_0000;
+
+// Over `count` characters of a layer from `at`, which itself is not looked at. The last character that was tested and passed is kept, and
+// passed again with no test: a side is a long run of one.
 fn walk_line(
     layer: &[u32],
     back: bool,
@@ -73,15 +87,19 @@ fn walk_line(
 {
     let mut p = at;
     let mut k = 0;
+    let mut kept = NO_CHARACTER;
     while k < count {
         p = next(back, p, step);
         k += 1;
         let code = layer[p];
-        if one_of(searched, code) {
-            return Walked::Steps(k);
-        }
-        if !one_of(allowed, code) {
-            return Walked::Stopped(Refusal::CharacterNotAllowed(code));
+        if code as u64 != kept {
+            if among(searched, code) {
+                return Walked::Steps(k);
+            }
+            if !one_of(allowed, code) {
+                return Walked::Stopped(Refusal::CharacterNotAllowed(code));
+            }
+            kept = code as u64;
         }
     }
     Walked::Stopped(Refusal::CharactersNotFound(first(searched)))
