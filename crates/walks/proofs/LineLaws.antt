@@ -10,7 +10,7 @@ use lib.ListN.{getD}
 use Rattle.lists.specs.Picture.{pic, canvas}
 use Rattle.lists.proofs.PictureLaws.{within-in, place-fits}
 use Rattle.walks.specs.Frame.{Place}
-use Rattle.walks.specs.Line.{place, lineOf, Reach, nextOf, NextFits}
+use Rattle.walks.specs.Line.{backOf, stepOf, place, lineOf, Reach, nextOf, NextFits}
 use Rattle.walks.specs.Walk.{walkOf, ray, ahead, goOf}
 use Rattle.walks.specs.declared.Direction.{Direction}
 use Rattle.walks.specs.declared.Direction.the-variants.{Right, Down, Left, Up}
@@ -40,19 +40,6 @@ reach-in true at step n len k r h = omega arith
 reach-in false at step n len k r h =
     let m : k * step ≤ n * step = mul-le-mul-right step h in
     omega arith
-
--- the way that each direction has through a layer of w columns: backwards or not, and the places between two characters
-abbrev pub backOf : Direction → Bool
-backOf Right = false
-backOf Down = false
-backOf Left = true
-backOf Up = true
-
-abbrev pub stepOf : Direction → ℕ → ℕ
-stepOf Right w = 1
-stepOf Down w = w
-stepOf Left w = 1
-stepOf Up w = w
 
 module _ (w h x y len : ℕ) (P : Place w h x y len) where
   pub place-in : y * w + x < len

@@ -3,6 +3,8 @@ use mathlib.Core.Bool.{Bool, true, false}
 use mathlib.Core.List.{List}
 use Prim.Native.Nat.{ℕ, _+_, _-_, _*_, _≤_, _<_, _^_}
 use lib.ListN.{getD}
+use Rattle.walks.specs.declared.Direction.{Direction}
+use Rattle.walks.specs.declared.Direction.the-variants.{Right, Down, Left, Up}
 
 -- the place k steps from `at`, with `step` places between two characters
 abbrev pub place : Bool → ℕ → ℕ → ℕ → ℕ
@@ -26,3 +28,16 @@ nextOf false p step = p + step
 abbrev pub NextFits : Bool → ℕ → ℕ → Type 0
 NextFits true p step = step ≤ p
 NextFits false p step = p + step < 2 ^ 64
+
+-- the way that each direction has through a layer of w columns: backwards or not, and the places between two characters
+abbrev pub backOf : Direction → Bool
+backOf Right = false
+backOf Down = false
+backOf Left = true
+backOf Up = true
+
+abbrev pub stepOf : Direction → ℕ → ℕ
+stepOf Right w = 1
+stepOf Down w = w
+stepOf Left w = 1
+stepOf Up w = w

@@ -6,9 +6,9 @@ ghost use Prim.Native.Nat.{_+_, _<_, _^_};
 ghost use lib.ListN.{length, getD};
 ghost use Rattle.lists.specs.OneOf.{oneOf};
 ghost use Rattle.lists.specs.Picture.{canvas};
-ghost use Rattle.walks.specs.Walk.{walkOf, goOf, stepsIn};
+ghost use Rattle.walks.specs.Walk.{walkOf, ahead, goOf, stepsIn};
 ghost use Rattle.walks.specs.Frame.{Place};
-ghost use Rattle.walks.specs.Line.{lineOf, Reach, nextOf, NextFits};
+ghost use Rattle.walks.specs.Line.{backOf, stepOf, lineOf, Reach, nextOf, NextFits};
 
 pub enum Direction {
     Right,
@@ -105,6 +105,43 @@ fn walk_line(
     Walked::Stopped(Refusal::CharactersNotFound(first(searched)))
 }
 
+// Whether a direction goes backwards through a layer.
+fn is_back(d: Direction) -> bool
+    ensures { λ r. ⌜ r ≡ backOf d ⌝ }
+{
+    match d {
+        Direction::Right => false,
+        Direction::Down => false,
+        Direction::Left => true,
+        Direction::Up => true,
+    }
+}
+
+// The places between two characters of a direction's line.
+fn step_of(d: Direction, w: usize) -> usize
+    ensures { λ r. ⌜ r ≡ stepOf d w ⌝ }
+{
+    match d {
+        Direction::Right => 1,
+        Direction::Down => w,
+        Direction::Left => 1,
+        Direction::Up => w,
+    }
+}
+
+// How many characters lie ahead.
+fn ahead(d: Direction, w: usize, h: usize, x: usize, y: usize) -> usize
+    requires { ⌜ (x < w) × (y < h) ⌝ }
+    ensures { λ r. ⌜ r ≡ ahead d w h x y ⌝ }
+{
+    match d {
+        Direction::Right => w - 1 - x,
+        Direction::Down => h - 1 - y,
+        Direction::Left => x,
+        Direction::Up => y,
+    }
+}
+
 // Walks from column x of row y of w columns and h rows, over allowed characters to a searched one.
 pub fn go(
     d: Direction,
@@ -119,11 +156,13 @@ pub fn go(
     requires { ⌜ Place w h x y (length (now layer)) ⌝ }
     ensures { λ r. ⌜ stepsIn r ≡ goOf d (canvas w h (now (layer .entry))) w h x y (now (searched .entry)) (now (allowed .entry)) ⌝ }
 {
-    let at = y * w + x;
-    match d {
-        Direction::Right => walk_line(layer, false, at, 1, w - 1 - x, searched, allowed),
-        Direction::Down => walk_line(layer, false, at, w, h - 1 - y, searched, allowed),
-        Direction::Left => walk_line(layer, true, at, 1, x, searched, allowed),
-        Direction::Up => walk_line(layer, true, at, w, y, searched, allowed),
-    }
+    walk_line(
+        layer,
+        is_back(d),
+        y * w + x,
+        step_of(d, w),
+        ahead(d, w, h, x, y),
+        searched,
+        allowed,
+    )
 }
