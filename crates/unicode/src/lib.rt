@@ -113,6 +113,32 @@ fn from_table(s: &[u8], at: usize) -> Decoded
     Decoded::IllFormed
 }
 
+// The two bytes behind a first one of E1 to EC at a place.
+fn two_more(s: &[u8], at: usize, a: u8) -> Decoded
+    requires { ⌜ (at + 2 < length (now s)) × (0xE0 ≤ a) ⌝ }
+    ensures { λ r. ⌜ r ≡ more (tail ∷ tail ∷ []) (a - 0xE0) 1 (drop (at + 1) (now (s .entry))) ⌝ }
+{
+    let p = at + 1;
+    let b = s[p];
+    if b < 0x80 {
+        return Decoded::IllFormed;
+    }
+    if 0xBF < b {
+        return Decoded::IllFormed;
+    }
+    let c = s[p + 1];
+    if c < 0x80 {
+        return Decoded::IllFormed;
+    }
+    if 0xBF < c {
+        return Decoded::IllFormed;
+    }
+    Decoded::Char(
+        (a as u32) * 4096 + (b as u32) * 64 + (c as u32) - 0xE2080,
+        3,
+    )
+}
+
 // The code point that stands at a place, 0 where none does. Stays out of line: `next` and `passed` are small without it.
 fn rare(s: &[u8], at: usize) -> u32
     ensures { λ r. ⌜ r ≡ codeOf (decode (drop at (now (s .entry)))) ⌝ }
@@ -138,7 +164,9 @@ pub fn next(s: &[u8], at: usize) -> Decoded
     }
     if 0xE0 < a {
         if a <= 0xEC {
-            return more2(s, at + 1, 0x80, 0xBF, (a - 0xE0) as u32, 1);
+            if 2 < s.len() - at {
+                return two_more(s, at, a);
+            }
         }
     }
     let c = rare(s, at);
@@ -182,8 +210,9 @@ fn passed(s: &[u8], at: usize) -> usize
     }
     if 0xE0 < a {
         if a <= 0xEC {
-            let d = more2(s, at + 1, 0x80, 0xBF, (a - 0xE0) as u32, 1);
-            return bytes_of(d);
+            if 2 < s.len() - at {
+                return bytes_of(two_more(s, at, a));
+            }
         }
     }
     let c = rare(s, at);

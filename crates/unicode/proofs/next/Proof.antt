@@ -24,22 +24,16 @@ returns-2 c =
     let a = c .before .before .before .before .args in
     sym (decode-at (a .s .now) (a .at) (search needs) ∙ row1 (getD (a .s .now) (a .at) 0) (drop (a .at + 1) (a .s .now)) (search needs))
 
-add-more2 : tie.Need-add-more2
-add-more2 c = search needs
+sub-if5 : tie.Need-sub-if5
+sub-if5 c = search needs
 
-sub-more2 : tie.Need-sub-more2
-sub-more2 c = search needs
-
-cast-more2 : tie.Need-cast-more2
-cast-more2 c = search needs
-
-more2-requires : tie.Need-more2-requires
-more2-requires c κs = search needs
+two-more-requires : tie.Need-two-more-requires
+two-more-requires c κs = search needs
 
 returns-3 : tie.Need-returns-3
 returns-3 c =
-    let a = c .before .before .before .before .before .before .before .args in
-    c .more2 .ensures ∙ sym (decode-at (a .s .now) (a .at) (search needs) ∙ row4 (getD (a .s .now) (a .at) 0) (drop (a .at + 1) (a .s .now)) (search needs) (search needs))
+    let a = c .before .before .before .before .before .before .before .before .args in
+    c .two-more .ensures ∙ sym (decode-at (a .s .now) (a .at) (search needs) ∙ row4 (getD (a .s .now) (a .at) 0) (drop (a .at + 1) (a .s .now)) (search needs) (search needs))
 
 rare-requires : tie.Need-rare-requires
 rare-requires c κs = search needs
@@ -47,22 +41,22 @@ rare-requires c κs = search needs
 returns-4 : tie.Need-returns-4
 returns-4 c =
     let a = c .before .before .before .before .before .before .before .args in
-    sym (told-bad (a .s .now) (a .at) (search needs) (search needs) _ (c .before .rare .ensures) (c .if5 .taken))
+    sym (told-bad (a .s .now) (a .at) (search needs) (search needs) _ (c .before .rare .ensures) (c .if6 .taken))
 
 returns-5 : tie.Need-returns-5
 returns-5 c =
     let a = c .before .before .before .before .before .before .before .before .args in
-    sym (told (drop (a .at) (a .s .now)) _ 2 (c .before .before .rare .ensures) (c .before .if5 .left) (ap length (encode2 _ (c .before .if5 .left) (c .if6 .taken))))
+    sym (told (drop (a .at) (a .s .now)) _ 2 (c .before .before .rare .ensures) (c .before .if6 .left) (ap length (encode2 _ (c .before .if6 .left) (c .if7 .taken))))
 
 returns-6 : tie.Need-returns-6
 returns-6 c =
     let a = c .before .before .before .before .before .before .before .before .before .args in
-    sym (told (drop (a .at) (a .s .now)) _ 3 (c .before .before .before .rare .ensures) (c .before .before .if5 .left) (ap length (encode3 _ (c .before .if6 .left) (c .if7 .taken))))
+    sym (told (drop (a .at) (a .s .now)) _ 3 (c .before .before .before .rare .ensures) (c .before .before .if6 .left) (ap length (encode3 _ (c .before .if7 .left) (c .if8 .taken))))
 
 returns-7 : tie.Need-returns-7
 returns-7 c =
     let a = c .before .before .before .before .before .before .before .before .before .args in
-    sym (told (drop (a .at) (a .s .now)) _ 4 (c .before .before .before .rare .ensures) (c .before .before .if5 .left) (ap length (encode4 _ (c .if7 .left))))
+    sym (told (drop (a .at) (a .s .now)) _ 4 (c .before .before .before .rare .ensures) (c .before .before .if6 .left) (ap length (encode4 _ (c .if8 .left))))
 
 pub next-spec : {M : Type 1} → statement M
 next-spec =
@@ -72,10 +66,8 @@ next-spec =
     shared-slice-read-a
     cast-t9
     returns-2
-    add-more2
-    sub-more2
-    cast-more2
-    more2-requires
+    sub-if5
+    two-more-requires
     returns-3
     rare-requires
     returns-4

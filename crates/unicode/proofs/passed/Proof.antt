@@ -17,25 +17,19 @@ returns c =
     let a = c .before .before .before .args in
     sym (ap bytesOf (decode-at (a .s .now) (a .at) (search needs) ∙ row1 (getD (a .s .now) (a .at) 0) (drop (a .at + 1) (a .s .now)) (search needs)))
 
-add-more2 : tie.Need-add-more2
-add-more2 c = search needs
+sub-if4 : tie.Need-sub-if4
+sub-if4 c = search needs
 
-sub-more2 : tie.Need-sub-more2
-sub-more2 c = search needs
-
-cast-more2 : tie.Need-cast-more2
-cast-more2 c = search needs
-
-more2-requires : tie.Need-more2-requires
-more2-requires c κs = search needs
+two-more-requires : tie.Need-two-more-requires
+two-more-requires c κs = search needs
 
 bytes-of-requires : tie.Need-bytes-of-requires
 bytes-of-requires c κs = search needs
 
 returns-2 : tie.Need-returns-2
 returns-2 c =
-    let a = c .before .before .before .before .before .before .before .args in
-    c .bytes-of .ensures ∙ ap bytesOf (c .before .more2 .ensures ∙ sym (decode-at (a .s .now) (a .at) (search needs) ∙ row4 (getD (a .s .now) (a .at) 0) (drop (a .at + 1) (a .s .now)) (search needs) (search needs)))
+    let a = c .before .before .before .before .before .before .before .before .args in
+    c .bytes-of .ensures ∙ ap bytesOf (c .before .two-more .ensures ∙ sym (decode-at (a .s .now) (a .at) (search needs) ∙ row4 (getD (a .s .now) (a .at) 0) (drop (a .at + 1) (a .s .now)) (search needs) (search needs)))
 
 rare-requires : tie.Need-rare-requires
 rare-requires c κs = search needs
@@ -43,22 +37,22 @@ rare-requires c κs = search needs
 returns-3 : tie.Need-returns-3
 returns-3 c =
     let a = c .before .before .before .before .before .before .args in
-    sym (ap bytesOf (told-bad (a .s .now) (a .at) (search needs) (search needs) _ (c .before .rare .ensures) (c .if4 .taken)))
+    sym (ap bytesOf (told-bad (a .s .now) (a .at) (search needs) (search needs) _ (c .before .rare .ensures) (c .if5 .taken)))
 
 returns-4 : tie.Need-returns-4
 returns-4 c =
     let a = c .before .before .before .before .before .before .before .args in
-    sym (ap bytesOf (told (drop (a .at) (a .s .now)) _ 2 (c .before .before .rare .ensures) (c .before .if4 .left) (ap length (encode2 _ (c .before .if4 .left) (c .if5 .taken)))))
+    sym (ap bytesOf (told (drop (a .at) (a .s .now)) _ 2 (c .before .before .rare .ensures) (c .before .if5 .left) (ap length (encode2 _ (c .before .if5 .left) (c .if6 .taken)))))
 
 returns-5 : tie.Need-returns-5
 returns-5 c =
     let a = c .before .before .before .before .before .before .before .before .args in
-    sym (ap bytesOf (told (drop (a .at) (a .s .now)) _ 3 (c .before .before .before .rare .ensures) (c .before .before .if4 .left) (ap length (encode3 _ (c .before .if5 .left) (c .if6 .taken)))))
+    sym (ap bytesOf (told (drop (a .at) (a .s .now)) _ 3 (c .before .before .before .rare .ensures) (c .before .before .if5 .left) (ap length (encode3 _ (c .before .if6 .left) (c .if7 .taken)))))
 
 returns-6 : tie.Need-returns-6
 returns-6 c =
     let a = c .before .before .before .before .before .before .before .before .args in
-    sym (ap bytesOf (told (drop (a .at) (a .s .now)) _ 4 (c .before .before .before .rare .ensures) (c .before .before .if4 .left) (ap length (encode4 _ (c .if6 .left)))))
+    sym (ap bytesOf (told (drop (a .at) (a .s .now)) _ 4 (c .before .before .before .rare .ensures) (c .before .before .if5 .left) (ap length (encode4 _ (c .if7 .left)))))
 
 pub passed-spec : {M : Type 1} → statement M
 passed-spec =
@@ -66,10 +60,8 @@ passed-spec =
     (tie.spec
     shared-slice-read-a
     returns
-    add-more2
-    sub-more2
-    cast-more2
-    more2-requires
+    sub-if4
+    two-more-requires
     bytes-of-requires
     returns-2
     rare-requires
