@@ -261,17 +261,18 @@ fn listed(c: u32) -> bool
     }
 }
 
-// Whether a code point is White_Space. No ASCII above the space is, and none between 0x205F and 0x3000.
+// Whether a code point is White_Space. Above 0x205F only 0x3000 is, and between 0x20 and 0x85 none.
 pub fn white_space(c: u32) -> bool
     ensures { λ r. ⌜ r ≡ white c ⌝ }
 {
+    if 0x205F < c {
+        if c == 0x3000 {
+            return true;
+        }
+        return false;
+    }
     if 0x20 < c {
         if c < 0x85 {
-            return false;
-        }
-    }
-    if 0x205F < c {
-        if c < 0x3000 {
             return false;
         }
     }
