@@ -108,13 +108,7 @@ pub fn sheet_record(
     ensures out { λ _. ⌜ now (out .exit) ≡ recordOf (tableRead (walkedPolicy (now (s .entry)))) (now (out .entry)) ⌝ }
 {
     match drawn_table(s, text, thins, bodies, grid, rects, bytes, spans, plane) {
-        Recognized::Stands(t) => records::write_table(
-            t,
-            &bytes[0..TEXT_BYTES],
-            thins,
-            scratch,
-            out,
-        ),
+        Recognized::Stands(t) => records::write_table(t, &bytes[0..TEXT_BYTES], thins, scratch, out),
         Recognized::NotRecognized(r) => Outcome::Refused(r),
     }
 }
