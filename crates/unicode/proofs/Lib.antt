@@ -6,5 +6,6 @@ pub mod PartLaws
 pub mod LineLaws
 pub mod Stored
 pub mod Inverse
+pub mod RareLaws
 pub mod TrimUtf8Laws
 pub mod TrimLength

@@ -8,7 +8,7 @@ ghost use Rattle.unicode.specs.Utf8.{more, decode, tail, _–_, checked,
 ghost use Rattle.unicode.specs.White.{white};
 ghost use Rattle.unicode.specs.Trim.{trimStart, trimEnd, trim, trimStartUtf8, trimUtf8, PartIn};
 ghost use Rattle.unicode.specs.Lines.{LineAt};
-ghost use Rattle.unicode.specs.LineScan.{lead, Led, RestAt};
+ghost use Rattle.unicode.specs.LineScan.{codeOf, bytesOf, lead, Led, RestAt};
 
 // What stands at a place: a code point with its number of bytes, an ill-formed sequence, or nothing.
 pub enum Decoded {
@@ -71,8 +71,8 @@ fn more3(s: &[u8], at: usize, lo: u8, hi: u8, code: u32, n: usize) -> Decoded
     more2(s, at + 1, 128, 191, code * 64 + ((b - 128) as u32), n + 1)
 }
 
-// What stands at a place of the bytes.
-pub fn next(s: &[u8], at: usize) -> Decoded
+// What stands at a place of the bytes, by all rows of the table.
+fn from_table(s: &[u8], at: usize) -> Decoded
     ensures { λ r. ⌜ r ≡ decode (drop at (now (s .entry))) ⌝ }
 {
     if s.len() <= at {
@@ -113,10 +113,119 @@ pub fn next(s: &[u8], at: usize) -> Decoded
     Decoded::IllFormed
 }
 
+// The two bytes behind a first one of E1 to EC at a place.
+fn two_more(s: &[u8], at: usize, a: u8) -> Decoded
+    requires { ⌜ (at + 2 < length (now s)) × (0xE0 ≤ a) ⌝ }
+    ensures { λ r. ⌜ r ≡ more (tail ∷ tail ∷ []) (a - 0xE0) 1 (drop (at + 1) (now (s .entry))) ⌝ }
+{
+    let p = at + 1;
+    let b = s[p];
+    if b < 0x80 {
+        return Decoded::IllFormed;
+    }
+    if 0xBF < b {
+        return Decoded::IllFormed;
+    }
+    let c = s[p + 1];
+    if c < 0x80 {
+        return Decoded::IllFormed;
+    }
+    if 0xBF < c {
+        return Decoded::IllFormed;
+    }
+    Decoded::Char(
+        (a as u32) * 4096 + (b as u32) * 64 + (c as u32) - 0xE2080,
+        3,
+    )
+}
+
+// The code point that stands at a place, 0 where none does. Stays out of line: `next` and `passed` are small without it.
+fn rare(s: &[u8], at: usize) -> u32
+    ensures { λ r. ⌜ r ≡ codeOf (decode (drop at (now (s .entry)))) ⌝ }
+{
+    let d = from_table(s, at);
+    match d {
+        Decoded::Char(c, _) => c,
+        Decoded::IllFormed => 0,
+        Decoded::End => 0,
+    }
+}
+
+// What stands at a place of the bytes: ASCII and three bytes that start with E1 to EC first, which nearly all are.
+pub fn next(s: &[u8], at: usize) -> Decoded
+    ensures { λ r. ⌜ r ≡ decode (drop at (now (s .entry))) ⌝ }
+{
+    if s.len() <= at {
+        return Decoded::End;
+    }
+    let a = s[at];
+    if a <= 0x7F {
+        return Decoded::Char(a as u32, 1);
+    }
+    if 0xE0 < a {
+        if a <= 0xEC {
+            if 2 < s.len() - at {
+                return two_more(s, at, a);
+            }
+        }
+    }
+    let c = rare(s, at);
+    if c <= 0x7F {
+        return Decoded::IllFormed;
+    }
+    if c <= 0x7FF {
+        return Decoded::Char(c, 2);
+    }
+    if c <= 0xFFFF {
+        return Decoded::Char(c, 3);
+    }
+    Decoded::Char(c, 4)
+}
+
 // Whether all bytes are well-formed, or else the index of the first sequence that is not.
 pub enum Checked {
     Valid,
     Invalid(usize),
+}
+
+// How many bytes a code point has, 0 where there is none.
+fn bytes_of(d: Decoded) -> usize
+    ensures { λ r. ⌜ r ≡ bytesOf d ⌝ }
+{
+    match d {
+        Decoded::Char(_, n) => n,
+        Decoded::IllFormed => 0,
+        Decoded::End => 0,
+    }
+}
+
+// How many bytes the code point at a place has, 0 where none stands there.
+fn passed(s: &[u8], at: usize) -> usize
+    requires { ⌜ at < length (now s) ⌝ }
+    ensures { λ r. ⌜ r ≡ bytesOf (decode (drop at (now (s .entry)))) ⌝ }
+{
+    let a = s[at];
+    if a <= 0x7F {
+        return 1;
+    }
+    if 0xE0 < a {
+        if a <= 0xEC {
+            if 2 < s.len() - at {
+                return bytes_of(two_more(s, at, a));
+            }
+        }
+    }
+    let c = rare(s, at);
+    if c <= 0x7F {
+        return 0;
+    }
+    if c <= 0x7FF {
+        return 2;
+    }
+    if c <= 0xFFFF {
+        return 3;
+    }
+    4
 }
 
 pub fn validate(s: &[u8]) -> Checked
@@ -124,24 +233,17 @@ pub fn validate(s: &[u8]) -> Checked
 {
     let mut at = 0;
     while at < s.len() {
-        let d = next(s, at);
-        match d {
-            Decoded::Char(_, n) => {
-                at += n;
-            }
-            Decoded::IllFormed => {
-                return Checked::Invalid(at);
-            }
-            Decoded::End => {
-                return Checked::Valid;
-            }
+        let n = passed(s, at);
+        if n == 0 {
+            return Checked::Invalid(at);
         }
+        at += n;
     }
     Checked::Valid
 }
 
-// Whether a code point is White_Space.
-pub fn white_space(c: u32) -> bool
+// Whether a code point is White_Space, by the list of them.
+fn listed(c: u32) -> bool
     ensures { λ r. ⌜ r ≡ white c ⌝ }
 {
     match c {
@@ -157,6 +259,24 @@ pub fn white_space(c: u32) -> bool
         | 0x3000 => true,
         _ => false,
     }
+}
+
+// Whether a code point is White_Space. Above 0x205F only 0x3000 is, and between 0x20 and 0x85 none.
+pub fn white_space(c: u32) -> bool
+    ensures { λ r. ⌜ r ≡ white c ⌝ }
+{
+    if 0x205F < c {
+        if c == 0x3000 {
+            return true;
+        }
+        return false;
+    }
+    if 0x20 < c {
+        if c < 0x85 {
+            return false;
+        }
+    }
+    listed(c)
 }
 
 // A part of a slice.

@@ -1,13 +1,15 @@
 -- `unicode::validate` meets its contract.
 use mathlib.Core.Path.{_≡_, refl, sym, _∙_}
 use mathlib.Core.List.{List}
-use Rattle.unicode.specs.declared.Decoded.the-variants.{Char}
 use Prim.Native.Nat.{ℕ, _+_, _-_, _≤_}
 use native.Mathlib.Omega.{arith}
 use borrow.Author.Needs.{needs}
 use lib.ListN.{length, drop}
+use Rattle.unicode.specs.declared.Decoded.the-variants.{Char}
 use Rattle.unicode.specs.Utf8.{decode, check}
-use Rattle.unicode.proofs.Utf8Laws.{char-fits, check-at, check-bad, check-none, check-end}
+use Rattle.unicode.specs.LineScan.{codeOf}
+use Rattle.unicode.proofs.Utf8Laws.{char-fits, check-at, check-bad, check-end}
+use Rattle.unicode.proofs.RareLaws.{passed-bad, passed-char}
 use Rattle.unicode.proofs.validate.Statement.{statement}
 use Rattle.unicode.proofs.validate.Tie as tie
 
@@ -20,55 +22,41 @@ abbrev μ-loop : tie.MeasureT-loop
 loop-holds : tie.Need-loop-holds Inv-loop μ-loop
 loop-holds c = (search needs, refl)
 
-next-requires : tie.Need-next-requires Inv-loop μ-loop
-next-requires c κs = search needs
+passed-requires : tie.Need-passed-requires Inv-loop μ-loop
+passed-requires c κs = search needs
 
-enum-known-d : tie.Need-enum-known-d Inv-loop μ-loop
-enum-known-d c = search needs
+abbrev S : tie.After-passed Inv-loop μ-loop → List ℕ
+S c = c .before .before .before .before .args .s .now
 
--- in the arm of a code point
-abbrev S : tie.After-known-told Inv-loop μ-loop → List ℕ
-S c = c .before .before .before .before .before .before .before .args .s .now
-
-abbrev at : tie.After-known-told Inv-loop μ-loop → ℕ
-at c = c .before .before .before .before .before .loop .at
-
-abbrev n : tie.After-known-told Inv-loop μ-loop → ℕ
-n c = c .before .d .given .0 .1 .0
-
-char : (c : tie.After-known-told Inv-loop μ-loop) → decode (drop (at c) (S c)) ≡ Char (c .before .d .given .0 .0) (n c)
-char c = sym (c .before .before .before .next .ensures) ∙ c .before .d .given .1
-
-fits : (c : tie.After-known-told Inv-loop μ-loop) → (1 ≤ n c) × (at c + n c ≤ length (S c))
-fits c = char-fits (S c) (at c) _ (n c) (char c) (search needs)
-
-add-at : tie.Need-add-at Inv-loop μ-loop
-add-at c = omega (arith, fits c)
-
-loop-less : tie.Need-loop-less Inv-loop μ-loop
-loop-less c = omega (arith, fits c)
-
-loop-again : tie.Need-loop-again Inv-loop μ-loop
-loop-again c = (fits c .1, c .before .before .before .before .before .loop .inv .1 ∙ check-at (S c) (at c) _ (n c) (char c) (search needs))
-
-enum-told : tie.Need-enum-told Inv-loop μ-loop
-enum-told c = search needs
+abbrev at : tie.After-passed Inv-loop μ-loop → ℕ
+at c = c .before .before .loop .at
 
 returns : tie.Need-returns Inv-loop μ-loop
 returns c =
-    let l = c .before .before .before .before in
-    sym (l .loop .inv .1 ∙ check-bad (l .loop .at) _ (sym (c .before .before .next .ensures) ∙ c .enum-told .given .1))
+    let p = c .before in
+    sym (p .before .before .loop .inv .1 ∙ check-bad (at p) _ (passed-bad (S p) (at p) (p .before .loop-test .taken) _ (p .passed .ensures) (c .if1 .taken)))
 
-enum-told-2 : tie.Need-enum-told-2 Inv-loop μ-loop
-enum-told-2 c = search needs
+-- a code point
+module _ (c : tie.After-passed Inv-loop μ-loop) (f : c .passed .result ≡ 0 → ⊥) where
+  char : decode (drop (at c) (S c)) ≡ Char (codeOf (decode (drop (at c) (S c)))) (c .passed .result)
+  char = passed-char (drop (at c) (S c)) _ (c .passed .ensures) f
+
+  fits : (1 ≤ c .passed .result) × (at c + c .passed .result ≤ length (S c))
+  fits = char-fits (S c) (at c) _ (c .passed .result) char (search needs)
+
+add-at : tie.Need-add-at Inv-loop μ-loop
+add-at c = omega (arith, fits (c .before) (c .if1 .left))
+
+loop-less : tie.Need-loop-less Inv-loop μ-loop
+loop-less c = omega (arith, fits (c .before) (c .if1 .left))
+
+loop-again : tie.Need-loop-again Inv-loop μ-loop
+loop-again c =
+    let p = c .before in
+    (fits p (c .if1 .left) .1, p .before .before .loop .inv .1 ∙ check-at (S p) (at p) _ (p .passed .result) (char p (c .if1 .left)) (search needs))
 
 returns-2 : tie.Need-returns-2 Inv-loop μ-loop
-returns-2 c =
-    let l = c .before .before .before .before in
-    sym (l .loop .inv .1 ∙ check-none (l .loop .at) _ (sym (c .before .before .next .ensures) ∙ c .enum-told2 .given .1))
-
-returns-3 : tie.Need-returns-3 Inv-loop μ-loop
-returns-3 c = sym (c .before .loop .inv .1 ∙ check-end _ (c .before .loop .at) (search needs))
+returns-2 c = sym (c .before .loop .inv .1 ∙ check-end _ (c .before .loop .at) (search needs))
 
 pub validate-spec : {M : Type 1} → statement M
 validate-spec =
@@ -77,13 +65,9 @@ validate-spec =
     Inv-loop
     μ-loop
     loop-holds
-    next-requires
-    enum-known-d
+    passed-requires
+    returns
     add-at
     loop-less
     loop-again
-    enum-told
-    returns
-    enum-told-2
-    returns-2
-    returns-3)
+    returns-2)
