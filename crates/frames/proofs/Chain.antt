@@ -61,12 +61,12 @@ use Rattle.walks.proofs.Walked as N
 use Rattle.walks.proofs.Walked.Laws as N′
 use Rattle.frames.specs.Answers.{closedOf}
 use Rattle.frames.specs.Body.{bodyOf}
-use Rattle.frames.specs.Characters.{kindOf}
+use Rattle.along.specs.Characters.{kindOf}
 use Rattle.frames.specs.Cursor.{point}
-use Rattle.frames.specs.declared.Lines.{Lines}
-use Rattle.frames.specs.declared.Lines.the-variants as kinds
-use Rattle.frames.proofs.Lines as L
-use Rattle.frames.proofs.Lines.Laws as L′
+use Rattle.along.specs.declared.Lines.{Lines}
+use Rattle.along.specs.declared.Lines.the-variants as kinds
+use Rattle.along.proofs.Lines as L
+use Rattle.along.proofs.Lines.Laws as L′
 use Rattle.frames.proofs.CursorLaws.{Moves, stays, around, sides-found}
 use Rattle.frames.proofs.Thin.{Layer, layer-val, layer-own, mach, told, lined, Found, thin}
 use Rattle.frames.proofs.closed as closed

@@ -19,10 +19,10 @@ use Rattle.walks.proofs.FrameLaws.{closed, stops-right, stops-down, stops-left,
 use Rattle.walks.proofs.WalkLaws.{found-bound}
 use Rattle.frames.specs.Answers.{allOf, closedOf}
 use Rattle.frames.specs.Body.{bodyOf}
-use Rattle.frames.specs.Characters.{kindOf}
-use Rattle.frames.specs.Cursor.{alongOf, point, placeOf, placeAfter, MoveFits}
-use Rattle.frames.specs.declared.Lines.{Lines}
-use Rattle.frames.specs.declared.Lines.the-variants.{Region, Rectangle, Name, Body}
+use Rattle.along.specs.Characters.{kindOf, alongOf}
+use Rattle.frames.specs.Cursor.{point, placeOf, placeAfter, MoveFits}
+use Rattle.along.specs.declared.Lines.{Lines}
+use Rattle.along.specs.declared.Lines.the-variants.{Region, Rectangle, Name, Body}
 use Rattle.frames.specs.declared.Moved.{Moved}
 
 -- a walk keeps to the picture

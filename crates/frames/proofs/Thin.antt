@@ -50,11 +50,12 @@ use Rattle.walks.specs.declared.Direction.{Direction}
 use Rattle.walks.specs.declared.Walked.{Walked}
 use Rattle.walks.proofs.Walked as N
 use Rattle.walks.proofs.Walked.Laws as N′
-use Rattle.frames.specs.Cursor.{alongOf, point, placeOf, placeAfter}
-use Rattle.frames.specs.declared.Lines.{Lines}
+use Rattle.along.specs.Characters.{alongOf}
+use Rattle.frames.specs.Cursor.{point, placeOf, placeAfter}
+use Rattle.along.specs.declared.Lines.{Lines}
 use Rattle.frames.specs.declared.Moved.{Moved}
-use Rattle.frames.proofs.Lines as L
-use Rattle.frames.proofs.Lines.Laws as L′
+use Rattle.along.proofs.Lines as L
+use Rattle.along.proofs.Lines.Laws as L′
 use Rattle.frames.proofs.Moved as Mv
 use Rattle.frames.proofs.Moved.Laws as Mv′
 use Rattle.frames.proofs.right_at as right-at

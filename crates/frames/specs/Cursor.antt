@@ -1,19 +1,11 @@
 -- A cursor and the walks that move it: document 01, "The cursor is lent and moved by each walk; a walk that fails leaves it unmoved".
 use Prim.Native.Nat.{ℕ, _+_, _-_, _≤_, _<_, _^_}
 use Rattle.lists.specs.Answer.{ok, refused}
-use Rattle.lists.specs.Picture.{Picture}
 use Rattle.model.specs.Refusals.{Reading}
 use Rattle.model.specs.declared.Point.{Point}
-use Rattle.walks.specs.Walk.{goOf}
 use Rattle.walks.specs.declared.Direction.{Direction}
 use Rattle.walks.specs.declared.Direction.the-variants.{Right, Down, Left, Up}
-use Rattle.frames.specs.Characters.{searchedOf, allowedOf}
-use Rattle.frames.specs.declared.Lines.{Lines}
 use Rattle.frames.specs.declared.Moved.{Moved}
-
--- the walk along lines from column x of row y, in a picture of w columns and h rows
-abbrev pub alongOf : Lines → Direction → Picture → ℕ → ℕ → ℕ → ℕ → Reading ℕ
-alongOf lines d p w h x y = goOf d p w h x y (searchedOf lines d) (allowedOf lines d)
 
 abbrev pub point : ℕ → ℕ → Point
 point x y = record { x = x; y = y }

@@ -1,4 +1,3 @@
-pub mod Characters
 pub mod Cursor
 pub mod Body
 pub mod Answers

@@ -13,8 +13,8 @@ use Rattle.model.specs.declared.Rect.{Rect}
 use Rattle.walks.proofs.WalkLaws.{found-bound}
 use Rattle.walks.specs.declared.Direction.the-variants.{Right, Down, Left, Up}
 use Rattle.frames.specs.Body.{bodyOf}
-use Rattle.frames.specs.Cursor.{alongOf}
-use Rattle.frames.specs.declared.Lines.the-variants.{Body}
+use Rattle.along.specs.Characters.{alongOf}
+use Rattle.along.specs.declared.Lines.the-variants.{Body}
 use Rattle.outline.specs.Outline.{searchOf, namedOf, tableOf, outlineBy, outlineOf}
 use Rattle.outline.specs.declared.Outline.{Outline}
 use Rattle.outline.proofs.OutlineLaws.{search-in}

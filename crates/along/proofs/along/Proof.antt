@@ -1,7 +1,7 @@
--- `frames::along` meets its contract.
+-- `along::along` meets its contract.
 use borrow.Author.Needs.{needs}
-use Rattle.frames.proofs.along.Statement.{statement}
-use Rattle.frames.proofs.along.Tie as tie
+use Rattle.along.proofs.along.Statement.{statement}
+use Rattle.along.proofs.along.Tie as tie
 
 pub along-spec : {M : Type 1} → statement M
 along-spec =

@@ -1,7 +1,7 @@
--- `frames::go_toward` meets its contract.
+-- `along::go_toward` meets its contract.
 use borrow.Author.Needs.{needs}
-use Rattle.frames.proofs.go_toward.Statement.{statement}
-use Rattle.frames.proofs.go_toward.Tie as tie
+use Rattle.along.proofs.go_toward.Statement.{statement}
+use Rattle.along.proofs.go_toward.Tie as tie
 
 pub go-toward-spec : {M : Type 1} → statement M
 go-toward-spec =

@@ -1,10 +1,10 @@
--- `frames::along_rectangle` meets its contract.
+-- `along::along_region` meets its contract.
 use borrow.Author.Needs.{needs}
-use Rattle.frames.proofs.along_rectangle.Statement.{statement}
-use Rattle.frames.proofs.along_rectangle.Tie as tie
+use Rattle.along.proofs.along_region.Statement.{statement}
+use Rattle.along.proofs.along_region.Tie as tie
 
-pub along-rectangle-spec : {M : Type 1} → statement M
-along-rectangle-spec =
+pub along-region-spec : {M : Type 1} → statement M
+along-region-spec =
     tie.close
     (tie.spec
     (λ c. search needs) (λ c. search needs) (λ c. search needs) (λ c κs. search needs)

@@ -2,13 +2,16 @@
 -- `recognize_body_rect` and `recognize_crossings`. The characters stand in the Rust's order.
 use mathlib.Core.List.{List, [], _∷_}
 use Prim.Native.Nat.{ℕ}
+use Rattle.lists.specs.Picture.{Picture}
 use Rattle.model.specs.Box.{═, ║, ╞, ╟, ╡, ╢, ╤, ╥, ╧, ╨, ╪, ╫, ╬}
+use Rattle.model.specs.Refusals.{Reading}
 use Rattle.walks.specs.Frame.{Kind}
 use Rattle.walks.specs.Kinds.{thin, grid, name}
+use Rattle.walks.specs.Walk.{goOf}
 use Rattle.walks.specs.declared.Direction.{Direction}
 use Rattle.walks.specs.declared.Direction.the-variants.{Right, Down, Left, Up}
-use Rattle.frames.specs.declared.Lines.{Lines}
-use Rattle.frames.specs.declared.Lines.the-variants.{Region, Rectangle, Name, Body, Crossing}
+use Rattle.along.specs.declared.Lines.{Lines}
+use Rattle.along.specs.declared.Lines.the-variants.{Region, Rectangle, Name, Body, Crossing}
 
 -- of four, that of a direction
 abbrev pub toward : {A : Type 0} → Direction → A → A → A → A → A
@@ -53,3 +56,7 @@ kindOf lines =
       topLeft = searchedOf lines Up;
       left = allowedOf lines Up;
     }
+
+-- the walk along lines from column x of row y, in a picture of w columns and h rows
+abbrev pub alongOf : Lines → Direction → Picture → ℕ → ℕ → ℕ → ℕ → Reading ℕ
+alongOf lines d p w h x y = goOf d p w h x y (searchedOf lines d) (allowedOf lines d)
