@@ -5,7 +5,7 @@ use lib.ListN.{length}
 use Rattle.model.specs.Limits.{textBytes}
 use Rattle.room.specs.Room.{Roomy}
 use Rattle.room.proofs.RoomLaws.{at-least}
-use Rattle.drawn_records.specs.DrawnTable.{DrawnRoom}
+use Rattle.drawn_planes.specs.DrawnTable.{DrawnRoom}
 use Rattle.lent_records.specs.LentTable.{LentRoom}
 use Rattle.builder.specs.Entries.{sheetSizes, lentSizes}
 

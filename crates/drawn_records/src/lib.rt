@@ -1,7 +1,5 @@
 // The record of a drawing. The work slices are left as they come: the entry clears them.
-use canvas::Drawing;
-use canvas::PlaneRead;
-use model::Refusal;
+use drawn_planes::DrawnRows;
 use model::limits::TEXT_BYTES;
 use recognizer::Recognized;
 use records::Outcome;
@@ -13,49 +11,7 @@ ghost use Rattle.recognizer.specs.Told.{tableRead};
 ghost use Rattle.tables.specs.NamedTable.{namedTable, AnswerHeld};
 ghost use Rattle.policies.specs.DrawnPolicy.{walkedPolicy};
 ghost use Rattle.records.specs.Outcomes.{outcomeOf, recordOf};
-ghost use Rattle.drawn_records.specs.DrawnTable.{namedPlane, drawnIn, DrawnHeld, DrawnRoom};
-
-// So many rows of a plane, with so many regions, and whether the first of these is the name's; or a refusal.
-pub enum DrawnRows {
-    Rows(usize, usize, bool),
-    NotDrawn(Refusal),
-}
-
-// The plane of a drawing, with the texts of its regions.
-fn drawn_plane(
-    s: &[u8],
-    text: &mut [u32],
-    thins: &mut [u32],
-    bodies: &mut [u32],
-    grid: &mut [u32],
-    rects: &mut [u32],
-    bytes: &mut [u8],
-    spans: &mut [u32],
-    plane: &mut [u32],
-) -> DrawnRows
-    requires { ⌜ DrawnRoom (now text) (now thins) (now bodies) (now grid) (now rects) (now bytes) (now spans) (now plane) ⌝ }
-    ensures plane { λ r. ⌜ drawnIn r (now (plane .exit)) (now (bytes .exit)) (now (spans .exit)) ≡ namedPlane (now (s .entry)) ⌝ }
-    ensures held { λ r. ⌜ DrawnHeld r (now (plane .exit)) (now (bytes .exit)) (now (spans .exit)) ⌝ }
-{
-    match canvas::draw_sheet(s, text, thins, bodies, grid) {
-        Drawing::Drawn(rows, columns, _, o) => match canvas::read_plane(
-            o,
-            text,
-            thins,
-            grid,
-            columns,
-            rows,
-            rects,
-            bytes,
-            spans,
-            plane,
-        ) {
-            PlaneRead::Rows(n, count) => DrawnRows::Rows(n, count, o.named),
-            PlaneRead::NoPlane(r) => DrawnRows::NotDrawn(r),
-        },
-        Drawing::NotDrawn(r) => DrawnRows::NotDrawn(r),
-    }
-}
+ghost use Rattle.drawn_planes.specs.DrawnTable.{DrawnRoom};
 
 // The table of a drawing. Once there is a plane the layers are not needed: the upright sheet goes where BODY was,
 // the slots where THIN was.
@@ -74,7 +30,7 @@ fn drawn_table(
     ensures table { λ r. ⌜ namedTable r (take textBytes (now (bytes .exit))) (now (thins .exit)) ≡ tableRead (walkedPolicy (now (s .entry))) ⌝ }
     ensures held { λ r. ⌜ AnswerHeld r (take textBytes (now (bytes .exit))) (now (thins .exit)) ⌝ }
 {
-    match drawn_plane(s, text, thins, bodies, grid, rects, bytes, spans, plane) {
+    match drawn_planes::drawn_plane(s, text, thins, bodies, grid, rects, bytes, spans, plane) {
         DrawnRows::Rows(n, count, named) => tables::plane_table(
             plane,
             n,

@@ -4,10 +4,10 @@ use mathlib.Core.List.{List}
 use Prim.Native.Nat.{ℕ}
 use lib.ListN.{length-take}
 use Rattle.model.specs.Limits.{textBytes}
-use Rattle.drawn_records.specs.DrawnTable.{namedPlane, drawnIn, DrawnHeld}
-use Rattle.drawn_records.specs.declared.DrawnRows.{DrawnRows}
-use Rattle.drawn_records.specs.declared.DrawnRows.the-variants.{Rows}
-use Rattle.drawn_records.proofs.DrawnTableLaws.{no-policy, drawn-policy}
+use Rattle.drawn_planes.specs.DrawnTable.{namedPlane, drawnIn, DrawnHeld}
+use Rattle.drawn_planes.specs.declared.DrawnRows.{DrawnRows}
+use Rattle.drawn_planes.specs.declared.DrawnRows.the-variants.{Rows}
+use Rattle.drawn_planes.proofs.DrawnTableLaws.{no-policy, drawn-policy}
 use native.Mathlib.Omega.{arith}
 use borrow.Author.Needs.{needs}
 use Rattle.drawn_records.proofs.drawn_table.Statement.{statement}

@@ -1,4 +1,4 @@
--- `drawn_records::drawn_plane` meets its contract.
+-- `drawn_planes::drawn_plane` meets its contract.
 use mathlib.Core.Path.{_≡_, sym, ap, _∙_, subst}
 use mathlib.Core.List.{List}
 use Prim.Native.Nat.{ℕ}
@@ -13,11 +13,11 @@ use Rattle.canvas.specs.DrawnPlane.{planeRead, PlaneHeld}
 use Rattle.canvas.specs.Layers.{sheetOf}
 use Rattle.canvas.specs.declared.Drawing.{Drawing}
 use Rattle.canvas.specs.declared.PlaneRead.{PlaneRead}
-use Rattle.drawn_records.proofs.DrawnTableLaws.{plane-room, no-plane, with-plane, name-in, not-drawn}
+use Rattle.drawn_planes.proofs.DrawnTableLaws.{plane-room, no-plane, with-plane, name-in, not-drawn}
 use native.Mathlib.Omega.{arith}
 use borrow.Author.Needs.{needs}
-use Rattle.drawn_records.proofs.drawn_plane.Statement.{statement}
-use Rattle.drawn_records.proofs.drawn_plane.Tie as tie
+use Rattle.drawn_planes.proofs.drawn_plane.Statement.{statement}
+use Rattle.drawn_planes.proofs.drawn_plane.Tie as tie
 
 -- the sheet that was drawn, by its places
 abbrev drawn : tie.After-known-told → tie.After-draw-sheet

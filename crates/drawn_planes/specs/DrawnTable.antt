@@ -15,8 +15,8 @@ use Rattle.canvas.specs.Drawn.{Room}
 use Rattle.canvas.specs.Layers.{sheetOf}
 use Rattle.tables.specs.NamedTable.{NameIn}
 use Rattle.policies.specs.DrawnPolicy.{drawnPlaneBy}
-use Rattle.drawn_records.specs.declared.DrawnRows.{DrawnRows}
-use Rattle.drawn_records.specs.declared.DrawnRows.the-variants.{Rows, NotDrawn}
+use Rattle.drawn_planes.specs.declared.DrawnRows.{DrawnRows}
+use Rattle.drawn_planes.specs.declared.DrawnRows.the-variants.{Rows, NotDrawn}
 
 -- a drawing's plane, and whether the drawing has a name
 pub record NamedPlane : Type 0 where

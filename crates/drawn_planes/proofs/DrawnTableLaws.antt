@@ -44,7 +44,7 @@ use Rattle.tables.specs.NamedTable.{nameOf, NameIn}
 use Rattle.policies.specs.DrawnPolicy.{drawnPlaneBy, nameBy, policyBy, walkedPolicy}
 use Rattle.policies.specs.LentPolicy.{textIn}
 use Rattle.policies.proofs.DrawnWithin.{read, gathered}
-use Rattle.drawn_records.specs.DrawnTable.{NamedPlane, namedPlane}
+use Rattle.drawn_planes.specs.DrawnTable.{NamedPlane, namedPlane}
 
 -- a sheet that is drawn fits the canvas
 drawn-fits : (rs : List (List ℕ)) (o : Outline) → drawingOf rs ≡ ok o → fits rs ≡ true

@@ -1,0 +1,48 @@
+// The plane of a drawing.
+use canvas::Drawing;
+use canvas::PlaneRead;
+use model::Refusal;
+ghost use mathlib.Core.Path.{_≡_};
+ghost use Rattle.drawn_planes.specs.DrawnTable.{namedPlane, drawnIn, DrawnHeld, DrawnRoom};
+
+// So many rows of a plane, with so many regions, and whether the first of these is the name's; or a refusal.
+pub enum DrawnRows {
+    Rows(usize, usize, bool),
+    NotDrawn(Refusal),
+}
+
+// The plane of a drawing, with the texts of its regions.
+pub fn drawn_plane(
+    s: &[u8],
+    text: &mut [u32],
+    thins: &mut [u32],
+    bodies: &mut [u32],
+    grid: &mut [u32],
+    rects: &mut [u32],
+    bytes: &mut [u8],
+    spans: &mut [u32],
+    plane: &mut [u32],
+) -> DrawnRows
+    requires { ⌜ DrawnRoom (now text) (now thins) (now bodies) (now grid) (now rects) (now bytes) (now spans) (now plane) ⌝ }
+    ensures plane { λ r. ⌜ drawnIn r (now (plane .exit)) (now (bytes .exit)) (now (spans .exit)) ≡ namedPlane (now (s .entry)) ⌝ }
+    ensures held { λ r. ⌜ DrawnHeld r (now (plane .exit)) (now (bytes .exit)) (now (spans .exit)) ⌝ }
+{
+    match canvas::draw_sheet(s, text, thins, bodies, grid) {
+        Drawing::Drawn(rows, columns, _, o) => match canvas::read_plane(
+            o,
+            text,
+            thins,
+            grid,
+            columns,
+            rows,
+            rects,
+            bytes,
+            spans,
+            plane,
+        ) {
+            PlaneRead::Rows(n, count) => DrawnRows::Rows(n, count, o.named),
+            PlaneRead::NoPlane(r) => DrawnRows::NotDrawn(r),
+        },
+        Drawing::NotDrawn(r) => DrawnRows::NotDrawn(r),
+    }
+}
