@@ -1,29 +1,12 @@
 -- Laws of where a walk leaves the cursor, and of four walks of one cursor.
-use mathlib.Core.Path.{_≡_, refl, sym, ap, _∙_, subst}
+use mathlib.Core.{Path._≡_, Path.refl, Path.sym, Path.ap, Path._∙_, Path.subst}
 use Prim.Native.Nat.{ℕ, _+_, _-_, _<_, _^_}
-use native.Mathlib.Omega.{arith}
-use Rattle.lists.specs.Answer.{ok, refused, _>>=_, _>>_}
-use Rattle.lists.specs.Picture.{Picture}
-use Rattle.model.specs.Refusals.{Reading}
-use Rattle.model.specs.declared.Point.{Point}
-use Rattle.model.specs.declared.Rect.{Rect}
-use Rattle.model.specs.declared.Refusal.{Refusal}
-use Rattle.walks.specs.Frame.{Place, rectOf, closeOf, frameOf}
-use Rattle.walks.specs.Kinds.{thin, grid, name}
-use Rattle.walks.specs.Walk.{stepsIn}
-use Rattle.walks.specs.declared.Direction.{Direction}
-use Rattle.walks.specs.declared.Direction.the-variants.{Right, Down, Left, Up}
-use Rattle.walks.specs.declared.Walked.{Walked}
-use Rattle.walks.specs.declared.Walked.the-variants.{Steps, Stopped}
-use Rattle.walks.proofs.FrameLaws.{closed, stops-right, stops-down, stops-left, stops-up, walked}
-use Rattle.walks.proofs.WalkLaws.{found-bound}
-use Rattle.frames.specs.Answers.{allOf, closedOf}
-use Rattle.frames.specs.Body.{bodyOf}
-use Rattle.along.specs.Characters.{kindOf, alongOf}
-use Rattle.frames.specs.Cursor.{point, placeOf, placeAfter, MoveFits}
-use Rattle.along.specs.declared.Lines.{Lines}
-use Rattle.along.specs.declared.Lines.the-variants.{Region, Rectangle, Name, Body}
-use Rattle.frames.specs.declared.Moved.{Moved}
+use native.Mathlib.{Omega.arith}
+use Rattle.lists.{specs.Answer.ok, specs.Answer.refused, specs.Answer._>>=_, specs.Answer._>>_, specs.Picture.Picture}
+use Rattle.model.{specs.Refusals.Reading, specs.declared.Point.Point, specs.declared.Rect.Rect, specs.declared.Refusal.Refusal}
+use Rattle.walks.{specs.Frame.Place, specs.Frame.rectOf, specs.Frame.closeOf, specs.Frame.frameOf, specs.Kinds.thin, specs.Kinds.grid, specs.Kinds.name, specs.Walk.stepsIn, specs.declared.Direction.Direction, specs.declared.Direction.the-variants.Right, specs.declared.Direction.the-variants.Down, specs.declared.Direction.the-variants.Left, specs.declared.Direction.the-variants.Up, specs.declared.Walked.Walked, specs.declared.Walked.the-variants.Steps, specs.declared.Walked.the-variants.Stopped, proofs.FrameLaws.closed, proofs.FrameLaws.stops-right, proofs.FrameLaws.stops-down, proofs.FrameLaws.stops-left, proofs.FrameLaws.stops-up, proofs.FrameLaws.walked, proofs.WalkLaws.found-bound}
+use Rattle.frames.specs.{Answers.allOf, Answers.closedOf, Body.bodyOf, Cursor.point, Cursor.placeOf, Cursor.placeAfter, Cursor.MoveFits, declared.Moved.Moved}
+use Rattle.along.{specs.Characters.kindOf, specs.Characters.alongOf, specs.declared.Lines.Lines, specs.declared.Lines.the-variants.Region, specs.declared.Lines.the-variants.Rectangle, specs.declared.Lines.the-variants.Name, specs.declared.Lines.the-variants.Body}
 
 -- a walk keeps to the picture
 pub kept : (lines : Lines) (d : Direction) (p : Picture) (w h len : ℕ) (at : Point) → Place w h (at .x) (at .y) len → (m : Reading ℕ) → alongOf lines d p w h (at .x) (at .y) ≡ m → Place w h (placeAfter d at m .x) (placeAfter d at m .y) len

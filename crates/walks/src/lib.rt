@@ -58,7 +58,7 @@ fn next(back: bool, p: usize, step: usize) -> usize
     if back { p - step } else { p + step }
 }
 
-// The same. Four, as most corners have, are compared at once.
+// Whether a character is one of some: four, as most corners have, are compared at once.
 fn among(codes: &[u32], code: u32) -> bool
     ensures { λ r. ⌜ r ≡ oneOf code (now (codes .entry)) ⌝ }
 {
