@@ -23,8 +23,8 @@ use Rattle.scan.specs.Rows.{widest}
 use Rattle.scan.specs.declared.Scanned.the-variants.{Canvas, NotScanned}
 use Rattle.scan.proofs.Answers.{scanned-size, fits-size}
 use Rattle.scan.proofs.TextLayer.{text-canvas, blanks-canvas}
-use Rattle.unicode.specs.Utf8.{checked}
-use Rattle.unicode.specs.declared.Checked.the-variants.{Valid, Invalid}
+use Rattle.utf8.specs.Utf8.{checked}
+use Rattle.utf8.specs.declared.Checked.the-variants.{Valid, Invalid}
 use Rattle.canvas.specs.Layers.{textLayer, drawingBy, drawingOf, sheetBy, sheetOf}
 use Rattle.canvas.specs.Drawn.{Shown}
 

@@ -11,7 +11,7 @@ use Rattle.model.specs.declared.Rect.{Rect}
 use Rattle.outline.specs.declared.Outline.{Outline}
 use Rattle.scan.specs.Rows.{widest}
 use Rattle.scan.specs.Sheet.{restOf}
-use Rattle.unicode.specs.Utf8.{codes}
+use Rattle.utf8.specs.Utf8.{codes}
 use Rattle.canvas.specs.Layers.{textLayer, thinLayer, bodyLayer, gridLayer}
 use Rattle.canvas.specs.declared.Drawing.{Drawing}
 use Rattle.canvas.specs.declared.Drawing.the-variants.{Drawn, NotDrawn}

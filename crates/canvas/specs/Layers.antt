@@ -14,7 +14,7 @@ use Rattle.outline.specs.Outline.{outlineBy}
 use Rattle.outline.specs.declared.Outline.{Outline}
 use Rattle.scan.specs.Canvas.{rowsAt, sizeOf}
 use Rattle.scan.specs.Rows.{widest, blank, flat}
-use Rattle.unicode.specs.Utf8.{checked, onText}
+use Rattle.utf8.specs.Utf8.{checked, onText}
 use Rattle.walks.specs.Frame.{FrameFinder, frameOf}
 
 -- TEXT: the rows, each filled to the longest

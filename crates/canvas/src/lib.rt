@@ -7,7 +7,7 @@ use regions::Counted;
 use scan::Scanned;
 use step::PlaneMade;
 use texts::Gathered;
-use unicode::Checked;
+use utf8::Checked;
 ghost use mathlib.Core.Path.{_≡_};
 ghost use Prim.Native.Nat.{_≤_};
 ghost use lib.ListN.{length};
@@ -91,7 +91,7 @@ pub fn draw_sheet(
     ensures layers { λ r. ⌜ LayersIn r (rowsAt (now (s .entry)) 0) (now (text .exit)) (now (thins .exit)) (now (bodies .exit)) (now (grid .exit)) ⌝ }
     ensures end { λ r. ⌜ Ended r (now (s .entry)) 0 ⌝ }
 {
-    match unicode::validate(s) {
+    match utf8::validate(s) {
         Checked::Valid => draw(s, 0, text, thins, bodies, grid),
         Checked::Invalid(at) => Drawing::NotDrawn(Refusal::InvalidUtf8(at)),
     }

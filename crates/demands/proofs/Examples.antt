@@ -6,7 +6,7 @@ use Rattle.model.specs.Policies.{sameText, byLetters}
 use Rattle.model.specs.RuleNumbers.{digits, numberOf}
 use Rattle.unicode.specs.Lines.{lines, texts, lastOf}
 use Rattle.unicode.specs.Trim.{trimStart, trimEnd, trim, trimStartUtf8, trimUtf8}
-use Rattle.unicode.specs.Utf8.{more, by, decode, check, read, encode, encodes}
+use Rattle.utf8.specs.Utf8.{more, by, decode, check, read, encode, encodes}
 use Rattle.unicode.specs.White.{among}
 use Rattle.emphasis.specs.Commas.{parts}
 use Rattle.emphasis.specs.Emphasis.{startsWith, endsWith, stripStart, stripEnd, strip, emphasised, firstMarked}

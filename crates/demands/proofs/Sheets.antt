@@ -11,7 +11,7 @@ use Rattle.lists.specs.Picture.{within, inRect}
 use Rattle.lists.specs.Run.{run}
 use Rattle.unicode.specs.Lines.{lines, texts, lastOf}
 use Rattle.unicode.specs.Trim.{trimStart, trimEnd, trim}
-use Rattle.unicode.specs.Utf8.{more, by, decode, check, read, encode, encodes}
+use Rattle.utf8.specs.Utf8.{more, by, decode, check, read, encode, encodes}
 use Rattle.unicode.specs.White.{among}
 use Rattle.model.specs.Policies.{sameText, byLetters}
 use Rattle.model.specs.RuleNumbers.{digits, numberOf}

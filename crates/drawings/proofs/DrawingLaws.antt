@@ -16,9 +16,9 @@ use Rattle.model.specs.declared.Refusal.{Refusal}
 use Rattle.outline.specs.declared.Outline.{Outline}
 use Rattle.scan.specs.Canvas.{rowsAt, fits, sizeOf}
 use Rattle.scan.proofs.Answers.{fits-size}
-use Rattle.unicode.specs.Utf8.{checked}
-use Rattle.unicode.specs.declared.Checked.{Checked}
-use Rattle.unicode.specs.declared.Checked.the-variants.{Valid, Invalid}
+use Rattle.utf8.specs.Utf8.{checked}
+use Rattle.utf8.specs.declared.Checked.{Checked}
+use Rattle.utf8.specs.declared.Checked.the-variants.{Valid, Invalid}
 use Rattle.canvas.specs.Layers.{drawingBy, drawingOf, sheetBy, sheetOf}
 use Rattle.canvas.specs.Drawn.{outlineIn, LayersIn, Shown}
 use Rattle.canvas.specs.RegionTexts.{Regions as Shape, regionTextsOf, regionsIn, UsedIn}

@@ -29,9 +29,9 @@ use Rattle.scan.specs.Rows.{widest}
 use Rattle.scan.proofs.Answers.{fits-size}
 use Rattle.texts.specs.RegionText.{textOf}
 use Rattle.texts.proofs.TextsLaws.{texts-are}
-use Rattle.unicode.specs.Utf8.{checked}
-use Rattle.unicode.specs.declared.Checked.{Checked}
-use Rattle.unicode.specs.declared.Checked.the-variants.{Valid, Invalid}
+use Rattle.utf8.specs.Utf8.{checked}
+use Rattle.utf8.specs.declared.Checked.{Checked}
+use Rattle.utf8.specs.declared.Checked.the-variants.{Valid, Invalid}
 use Rattle.walks.specs.Frame.{frameOf}
 use Rattle.walks.specs.Kinds as kind
 use Rattle.canvas.specs.Drawn.{Shown}

@@ -8,9 +8,9 @@ use lib.Dec.{leb}
 use lib.ListN.{length, getD, take, drop}
 use Rattle.lists.proofs.Tests.{by-flag, choose-off, true-false}
 use Rattle.unicode.specs.Trim.{PartIn, trimUtf8}
-use Rattle.unicode.specs.Utf8.{checked, onText}
-use Rattle.unicode.specs.declared.Checked.{Checked}
-use Rattle.unicode.specs.declared.Checked.the-variants.{Valid, Invalid}
+use Rattle.utf8.specs.Utf8.{checked, onText}
+use Rattle.utf8.specs.declared.Checked.{Checked}
+use Rattle.utf8.specs.declared.Checked.the-variants.{Valid, Invalid}
 use Rattle.cells.proofs.SpanLaws.{part-of}
 use Rattle.lent.specs.LentPlane.{goodPart}
 

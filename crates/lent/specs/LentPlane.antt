@@ -14,7 +14,7 @@ use Rattle.model.specs.Refusals.{Reading}
 use Rattle.model.specs.declared.Cell.{Cell}
 use Rattle.model.specs.declared.Refusal.the-variants.{LentPlaneMalformed}
 use Rattle.unicode.specs.Trim.{trimUtf8}
-use Rattle.unicode.specs.Utf8.{checked, onText}
+use Rattle.utf8.specs.Utf8.{checked, onText}
 use Rattle.cells.specs.Plane.{Plane, TextPlane}
 
 -- the lengths of the rows; the cells' kinds and region numbers, one row behind the other; the regions' texts as parts of some bytes

@@ -5,7 +5,7 @@ use model::limits::PLANE_CELLS;
 use model::limits::PLANE_ROWS;
 use model::limits::REGIONS;
 use model::limits::TEXT_BYTES;
-use unicode::Checked;
+use utf8::Checked;
 ghost use mathlib.Core.Path.{_≡_};
 ghost use Prim.Native.Nat.{_+_, _*_, _^_, _≤_, _<_};
 ghost use lib.Dec.{leb};
@@ -81,7 +81,7 @@ fn is_text(bytes: &[u8], offset: usize, size: usize) -> bool
     if bytes.len() < end {
         return false;
     }
-    match unicode::validate(&bytes[offset..end]) {
+    match utf8::validate(&bytes[offset..end]) {
         Checked::Valid => true,
         Checked::Invalid(_) => false,
     }

@@ -26,9 +26,9 @@ use Rattle.scan.specs.Rows.{widest}
 use Rattle.step.specs.PlaneStep.{planeBy}
 use Rattle.step.proofs.WalkedIsDrawn.{plane-below}
 use Rattle.texts.specs.RegionText.{textOf, textsOf}
-use Rattle.unicode.specs.Utf8.{checked, onText}
-use Rattle.unicode.specs.declared.Checked.{Checked}
-use Rattle.unicode.specs.declared.Checked.the-variants.{Valid, Invalid}
+use Rattle.utf8.specs.Utf8.{checked, onText}
+use Rattle.utf8.specs.declared.Checked.{Checked}
+use Rattle.utf8.specs.declared.Checked.the-variants.{Valid, Invalid}
 use Rattle.walks.specs.Frame.{FrameFinder, Kind, frameOf}
 use Rattle.walks.specs.Kinds as kind
 use Rattle.walks.specs.Sides.{bySides}

@@ -8,7 +8,7 @@ use Rattle.lists.specs.Put.{put}
 use Rattle.model.specs.Box.{─, │, ┌, ┐, └, ┘, ░}
 use Rattle.unicode.specs.Lines.{lines, texts, after, lastOf}
 use Rattle.unicode.specs.Trim.{trimStart, trimEnd, trim}
-use Rattle.unicode.specs.Utf8.{more, by, decode, read, codes}
+use Rattle.utf8.specs.Utf8.{more, by, decode, read, codes}
 use Rattle.unicode.specs.White.{among}
 use Rattle.scan.specs.Canvas.{sizeOf, blanksIn, rowsAt}
 use Rattle.scan.specs.Rows.{upTo, collect, widest, flat}

@@ -7,7 +7,7 @@ use native.Mathlib.Omega.{arith}
 use lib.ListN.{length, drop}
 use Rattle.model.specs.Box.{┘}
 use Rattle.unicode.specs.Lines.{codesAt, LineAt}
-use Rattle.unicode.specs.Utf8.{codes}
+use Rattle.utf8.specs.Utf8.{codes}
 use Rattle.scan.specs.Canvas.{rowsAt}
 use Rattle.scan.specs.Found.{textsAt, restAt, StartAt, Measured}
 use Rattle.scan.specs.Rows.{begins, upTo, collect, widest}

@@ -10,9 +10,9 @@ use Rattle.lists.proofs.Parts.{take-next, drop-next}
 use Rattle.lists.proofs.PutLaws.{put-nil, put-put, put-snoc}
 use Rattle.model.specs.Box.{░}
 use Rattle.unicode.specs.Lines.{codesAt}
-use Rattle.unicode.specs.Utf8.{codes, decode}
-use Rattle.unicode.specs.declared.Decoded.the-variants.{Char}
-use Rattle.unicode.proofs.Utf8Laws.{codes-char, decode-fits}
+use Rattle.utf8.specs.Utf8.{codes, decode}
+use Rattle.utf8.specs.declared.Decoded.the-variants.{Char}
+use Rattle.utf8.proofs.Utf8Laws.{codes-char, decode-fits}
 use Rattle.scan.specs.Rows.{fill, blank}
 use Rattle.scan.proofs.TextLayer.{blank-length}
 

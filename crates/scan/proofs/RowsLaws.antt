@@ -11,9 +11,9 @@ use borrow.Author.Tests.{eq-eqb, ne-eqb}
 use Rattle.lists.proofs.Tests.{true-false}
 use Rattle.model.specs.Box.{┌, ┘}
 use Rattle.unicode.specs.Lines.{lines, texts, kept, lastOf, codesAt, LineAt}
-use Rattle.unicode.specs.Utf8.{codes}
+use Rattle.utf8.specs.Utf8.{codes}
 use Rattle.unicode.proofs.LineLaws.{texts-split}
-use Rattle.unicode.proofs.Utf8Laws.{codes-end}
+use Rattle.utf8.proofs.Utf8Laws.{codes-end}
 use Rattle.scan.specs.Found.{textsAt}
 use Rattle.scan.specs.Rows.{begins, upTo, collect}
 

@@ -9,9 +9,9 @@ use borrow.Author.Tests.{eq-eqb, ne-eqb}
 use Rattle.model.specs.Box.{┘}
 use Rattle.unicode.specs.Lines.{lines, line, after, lastOf, codesAt, lineText, LineAt}
 use Rattle.unicode.specs.Trim.{trim}
-use Rattle.unicode.specs.Utf8.{codes}
+use Rattle.utf8.specs.Utf8.{codes}
 use Rattle.unicode.proofs.LineLaws.{lines-cons}
-use Rattle.unicode.proofs.Utf8Laws.{codes-end}
+use Rattle.utf8.proofs.Utf8Laws.{codes-end}
 use Rattle.scan.specs.Found.{restAt}
 use Rattle.scan.specs.Rows.{begins, ends}
 use Rattle.scan.specs.Sheet.{linesThrough, linesTaken, behind, restOf}

@@ -11,7 +11,7 @@ use Rattle.lists.specs.Put.{put}
 use Rattle.model.specs.Limits.{canvasRows, canvasColumns}
 use Rattle.model.specs.Refusals.{Reading}
 use Rattle.model.specs.declared.Refusal.the-variants.{CanvasTooLarge}
-use Rattle.unicode.specs.Utf8.{codes}
+use Rattle.utf8.specs.Utf8.{codes}
 use Rattle.scan.specs.Rows.{rows, widest, blank, flat}
 use Rattle.scan.specs.Sheet.{restOf}
 use Rattle.scan.specs.declared.Scanned.{Scanned}

@@ -4,7 +4,7 @@ use mathlib.Core.Path.{_≡_}
 use Prim.Native.Nat.{ℕ, _≤_}
 use lib.ListN.{length, drop}
 use Rattle.unicode.specs.Lines.{lines, texts}
-use Rattle.unicode.specs.Utf8.{codes}
+use Rattle.utf8.specs.Utf8.{codes}
 use Rattle.scan.specs.Canvas.{rowsAt}
 use Rattle.scan.specs.Rows.{upTo, widest}
 use Rattle.scan.specs.Sheet.{linesThrough, behind, restOf}

@@ -2,7 +2,7 @@
 use model::Refusal;
 use model::box_drawing;
 use model::limits;
-use unicode::Decoded;
+use utf8::Decoded;
 ghost use mathlib.Core.Path.{_≡_};
 ghost use mathlib.Core.List.{map};
 ghost use Prim.Native.Nat.{_+_, _*_, _≤_, max};
@@ -21,7 +21,7 @@ fn begins_sheet(s: &[u8], from: usize, count: usize) -> bool
     if count == 0 {
         return false;
     }
-    let d = unicode::next(s, from);
+    let d = utf8::next(s, from);
     match d {
         Decoded::Char(c, _) => c == box_drawing::LIGHT_DOWN_AND_RIGHT,
         Decoded::IllFormed => false,
@@ -99,7 +99,7 @@ fn put_codes(s: &[u8], from: usize, count: usize, out: &mut [u32], base: usize)
     let mut p = from;
     let mut i: usize = 0;
     while i < count {
-        let d = unicode::next(s, p);
+        let d = utf8::next(s, p);
         match d {
             Decoded::Char(c, n) => {
                 out[base + i] = c;

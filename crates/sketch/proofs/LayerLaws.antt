@@ -10,7 +10,7 @@ use Rattle.lists.specs.Picture.{Picture}
 use Rattle.lists.specs.Put.{put}
 use Rattle.lists.proofs.Tests.{by-flag}
 use Rattle.model.specs.Limits.{canvasColumns}
-use Rattle.unicode.specs.Utf8.{encode}
+use Rattle.utf8.specs.Utf8.{encode}
 use Rattle.print.specs.Decimal.{Written}
 use Rattle.print.specs.Lines.{lineFeed}
 use Rattle.print.proofs.WrittenLaws.{written-nil, written-then, written-within, written-as}

@@ -8,7 +8,7 @@ use Rattle.model.specs.Limits.{canvasRows, canvasColumns, regionCount, textByte
 use Rattle.model.specs.declared.Rect.{Rect}
 use Rattle.texts.specs.RegionText.{packed}
 use Rattle.cells.specs.Spans.{offsetAt, lengthAt, textsIn}
-use Rattle.unicode.specs.Utf8.{encode}
+use Rattle.utf8.specs.Utf8.{encode}
 use Rattle.print.specs.Decimal.{decimal}
 use Rattle.print.specs.Lines.{blank, lineFeed, countLine}
 

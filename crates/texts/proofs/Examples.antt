@@ -8,7 +8,7 @@ use Rattle.model.specs.Box.{─, │, ┌, ┐, └, ┘}
 use Rattle.model.specs.declared.Rect.{Rect}
 use Rattle.unicode.specs.Lines.{texts}
 use Rattle.unicode.specs.Trim.{trimStart, trimEnd, trim}
-use Rattle.unicode.specs.Utf8.{encode, encodes}
+use Rattle.utf8.specs.Utf8.{encode, encodes}
 use Rattle.unicode.specs.White.{among}
 use Rattle.texts.specs.RegionText.{behind, textOf}
 

@@ -10,8 +10,8 @@ use borrow.Author.Tests.{lt-ltb, le-ltb}
 use Rattle.lists.specs.Choose.{choose}
 use Rattle.unicode.specs.Lines.{kept, texts}
 use Rattle.unicode.specs.Trim.{trim}
-use Rattle.unicode.specs.Utf8.{encode, encodes}
-use Rattle.unicode.proofs.Inverse.{encodes-append}
+use Rattle.utf8.specs.Utf8.{encode, encodes}
+use Rattle.utf8.proofs.Inverse.{encodes-append}
 use Rattle.texts.specs.RegionText.{behind, joined}
 use Rattle.texts.specs.Rows.{next}
 

@@ -9,7 +9,7 @@ use lib.ListN.{length, take, drop, set, length-take, length-drop}
 use borrow.Author.Tests.{lt-ltb, le-ltb}
 use Rattle.lists.proofs.PutLaws.{put-one}
 use Rattle.model.specs.Limits.{textBytes}
-use Rattle.unicode.specs.Utf8.{encode, encodes}
+use Rattle.utf8.specs.Utf8.{encode, encodes}
 use Rattle.texts.specs.Rows.{next}
 use Rattle.texts.specs.Spans.{PutAt}
 use Rattle.texts.proofs.PutAtLaws.{written-none, written-over, written-then}

@@ -8,8 +8,8 @@ use Rattle.lists.specs.Put.{put}
 use Rattle.lists.proofs.Parts.{at-cons, part-add}
 use Rattle.lists.proofs.PutLaws.{put-nil, put-next}
 use Rattle.model.specs.Limits.{textBytes}
-use Rattle.unicode.specs.Utf8.{encode, encodes}
-use Rattle.unicode.proofs.Inverse.{encodes-append}
+use Rattle.utf8.specs.Utf8.{encode, encodes}
+use Rattle.utf8.proofs.Inverse.{encodes-append}
 use Rattle.texts.specs.Spans.{PutAt}
 use Rattle.texts.proofs.PutAtLaws.{written-over}
 

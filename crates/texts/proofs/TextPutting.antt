@@ -12,7 +12,7 @@ use Rattle.model.specs.declared.Rect.{Rect}
 use Rattle.regions.specs.Rects.{RectIn}
 use Rattle.unicode.specs.Lines.{texts}
 use Rattle.unicode.specs.Trim.{trim, PartIn}
-use Rattle.unicode.specs.Utf8.{encodes}
+use Rattle.utf8.specs.Utf8.{encodes}
 use Rattle.texts.specs.RegionText.{joined, textOf}
 use Rattle.texts.specs.Rows.{next}
 use Rattle.texts.specs.Spans.{PutAt}

@@ -12,7 +12,7 @@ use Rattle.model.specs.Refusals.{Reading}
 use Rattle.model.specs.declared.Rect.{Rect}
 use Rattle.model.specs.declared.Refusal.the-variants.{OverLimit}
 use Rattle.unicode.specs.Lines.{texts}
-use Rattle.unicode.specs.Utf8.{encodes}
+use Rattle.utf8.specs.Utf8.{encodes}
 
 -- the characters between the sides of a frame, row by row; right and bottom are exclusive
 abbrev pub between : Picture → Rect → List (List ℕ)

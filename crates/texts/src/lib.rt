@@ -8,7 +8,7 @@ ghost use lib.ListN.{length, take, drop};
 ghost use Rattle.lists.specs.Picture.{canvas};
 ghost use Rattle.model.specs.Limits.{textBytes};
 ghost use Rattle.regions.specs.Rects.{rectAt, rectsOf, RectIn};
-ghost use Rattle.unicode.specs.Utf8.{encodes};
+ghost use Rattle.utf8.specs.Utf8.{encodes};
 ghost use Rattle.texts.specs.RegionText.{textOf, textsOf};
 ghost use Rattle.texts.specs.Rows.{next};
 ghost use Rattle.texts.specs.Spans.{gatheredIn, SpansIn, Slices, PutAt};
@@ -30,7 +30,7 @@ fn put_part(text: &[u32], from: usize, to: usize, bytes: &mut [u8], at: usize) -
         if TEXT_BYTES < p {
             return TEXT_BYTES + 1;
         }
-        p = unicode::put_code(bytes, p, text[i]);
+        p = utf8::put_code(bytes, p, text[i]);
         i += 1;
     }
     if TEXT_BYTES < p {

@@ -14,9 +14,9 @@ use Rattle.lists.specs.Choose.{choose}
 use Rattle.unicode.specs.Trim.{trimStart, trimEnd, before, trim}
 use Rattle.unicode.specs.Lines.{join, lines, lastOf, texts, kept, line, after, lineText, LineAt}
 use Rattle.unicode.specs.LineScan.{lead, RestAt}
-use Rattle.unicode.specs.Utf8.{codes, decode}
-use Rattle.unicode.specs.declared.Decoded.the-variants.{Char}
-use Rattle.unicode.proofs.Utf8Laws.{codes-at, char-fits, codes-end}
+use Rattle.utf8.specs.Utf8.{codes, decode}
+use Rattle.utf8.specs.declared.Decoded.the-variants.{Char}
+use Rattle.utf8.proofs.Utf8Laws.{codes-at, char-fits, codes-end}
 use Rattle.unicode.proofs.TrimLaws.{end-snoc}
 
 -- the first line and the others

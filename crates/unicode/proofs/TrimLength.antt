@@ -7,11 +7,11 @@ use native.Mathlib.Omega.{arith}
 use lib.ListN.{length, length-append}
 use Rattle.lists.specs.Choose.{choose}
 use Rattle.unicode.specs.Trim.{trimStart, before, trimEnd, trim, whereValid, trimUtf8}
-use Rattle.unicode.specs.Utf8.{checked, codes, encode, encodes}
+use Rattle.utf8.specs.Utf8.{checked, codes, encode, encodes}
 use Rattle.unicode.specs.White.{white}
-use Rattle.unicode.specs.declared.Checked.{Checked}
-use Rattle.unicode.specs.declared.Checked.the-variants.{Valid, Invalid}
-use Rattle.unicode.proofs.Inverse.{encodes-codes}
+use Rattle.utf8.specs.declared.Checked.{Checked}
+use Rattle.utf8.specs.declared.Checked.the-variants.{Valid, Invalid}
+use Rattle.utf8.proofs.Inverse.{encodes-codes}
 
 -- one code point more
 encodes-next : (c : ℕ) (s : List ℕ) → length (encodes s) ≤ length (encodes (c ∷ s))

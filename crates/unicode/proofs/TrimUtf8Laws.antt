@@ -8,14 +8,14 @@ use lib.ListN.{length, take, drop, length-drop}
 use lib.Seq.{length-take-le}
 use Rattle.lists.proofs.Parts.{part-add, part-end}
 use Rattle.unicode.specs.White.{white}
-use Rattle.unicode.specs.Utf8.{decode, check, checked, codes, encode, encodes}
+use Rattle.utf8.specs.Utf8.{decode, check, checked, codes, encode, encodes}
 use Rattle.unicode.specs.Trim.{trimStart, trimEnd, trim, trimStartUtf8, trimUtf8, PartIn}
 use Rattle.unicode.specs.LineScan.{Led}
-use Rattle.unicode.specs.declared.Decoded.the-variants.{Char, IllFormed, End}
-use Rattle.unicode.specs.declared.Checked.the-variants.{Valid, Invalid}
-use Rattle.unicode.proofs.Utf8Laws.{char-fits, check-at, codes-at, codes-end, check-bad, check-end, decode-none}
+use Rattle.utf8.specs.declared.Decoded.the-variants.{Char, IllFormed, End}
+use Rattle.utf8.specs.declared.Checked.the-variants.{Valid, Invalid}
+use Rattle.utf8.proofs.Utf8Laws.{char-fits, check-at, codes-at, codes-end, check-bad, check-end, decode-none}
 use Rattle.unicode.proofs.TrimLaws.{end-snoc}
-use Rattle.unicode.proofs.Inverse.{encode-decode, encodes-append}
+use Rattle.utf8.proofs.Inverse.{encode-decode, encodes-append}
 
 -- p has come over white space alone
 pub record Leading (s : List ℕ) (p : ℕ) : Type 0 where

@@ -4,20 +4,14 @@ use mathlib.Core.Logic.{_⊎_, inl, inr}
 use mathlib.Core.Bool.{Bool, true, false, _||_}
 use mathlib.Core.List.{List, [], _∷_}
 use Prim.Native.Nat.{ℕ, _≤_}
-use lib.Dec.{leb}
-use borrow.Author.Tests.{leb-true}
-use Rattle.lists.proofs.Tests.{both}
-use Rattle.unicode.specs.Utf8.{Range, _–_, inRange}
+use Rattle.utf8.specs.Utf8.{Range, _–_, inRange}
 use Rattle.unicode.specs.White.{among}
-use Rattle.unicode.proofs.Utf8Laws.{in-range}
+use Rattle.utf8.proofs.Utf8Laws.{in-range-of, in-range}
 
 -- c is in one of the ranges
 abbrev pub In : List Range → ℕ → Type 0
 In [] c = ⊥
 In ((lo – hi) ∷ rs) c = ((lo ≤ c) × (c ≤ hi)) ⊎ In rs c
-
-pub in-range-of : (lo hi c : ℕ) → inRange (lo – hi) c ≡ true → (lo ≤ c) × (c ≤ hi)
-in-range-of lo hi c e = let h = both (leb lo c) (leb c hi) e in (leb-true lo c (h .0), leb-true c hi (h .1))
 
 -- the test is false where c is in none
 pub out-among : (rs : List Range) (c : ℕ) → (In rs c → ⊥) → among rs c ≡ false

@@ -1,4 +1,3 @@
-pub mod Utf8
 pub mod White
 pub mod Trim
 pub mod Lines

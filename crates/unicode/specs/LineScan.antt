@@ -5,23 +5,10 @@ use Prim.Native.Nat.{ℕ, _≤_, _<_}
 use lib.Dec.{eqb}
 use lib.ListN.{length, drop}
 use Rattle.lists.specs.Choose.{choose}
-use Rattle.unicode.specs.declared.Decoded.{Decoded}
-use Rattle.unicode.specs.declared.Decoded.the-variants.{Char, IllFormed, End}
-use Rattle.unicode.specs.Utf8.{check, codes}
+use Rattle.utf8.specs.Utf8.{check, codes}
 use Rattle.unicode.specs.White.{white}
 use Rattle.unicode.specs.Trim.{trimStart, trimEnd}
 use Rattle.unicode.specs.Lines.{line, after, lastOf}
-
--- the code point that was read and its number of bytes, 0 where none was
-abbrev pub codeOf : Decoded → ℕ
-codeOf (Char c n) = c
-codeOf IllFormed = 0
-codeOf End = 0
-
-abbrev pub bytesOf : Decoded → ℕ
-bytesOf (Char c n) = n
-bytesOf IllFormed = 0
-bytesOf End = 0
 
 -- the text behind the white space in front of it, up to a line feed
 unfoldable pub lead : List ℕ → List ℕ

@@ -6,7 +6,7 @@ use lib.Dec.{eqb}
 use lib.ListN.{length, take, drop}
 use Rattle.lists.specs.Choose.{choose}
 use Rattle.unicode.specs.Trim.{trim}
-use Rattle.unicode.specs.Utf8.{codes}
+use Rattle.utf8.specs.Utf8.{codes}
 
 -- c in front of the first line
 abbrev pub join : ℕ → List (List ℕ) → List (List ℕ)

@@ -4,10 +4,10 @@ use mathlib.Core.Path.{_≡_}
 use Prim.Native.Nat.{ℕ, _+_, _-_, _≤_}
 use lib.ListN.{length, take, drop}
 use Rattle.lists.specs.Choose.{choose}
-use Rattle.unicode.specs.Utf8.{checked, codes, encodes}
+use Rattle.utf8.specs.Utf8.{checked, codes, encodes}
 use Rattle.unicode.specs.White.{white}
-use Rattle.unicode.specs.declared.Checked.{Checked}
-use Rattle.unicode.specs.declared.Checked.the-variants.{Valid, Invalid}
+use Rattle.utf8.specs.declared.Checked.{Checked}
+use Rattle.utf8.specs.declared.Checked.the-variants.{Valid, Invalid}
 
 unfoldable pub trimStart : List ℕ → List ℕ
 trimStart [] = []

@@ -2,7 +2,7 @@
 use mathlib.Core.Bool.{Bool, false, _||_}
 use mathlib.Core.List.{List, [], _∷_}
 use Prim.Native.Nat.{ℕ}
-use Rattle.unicode.specs.Utf8.{Range, _–_, inRange}
+use Rattle.utf8.specs.Utf8.{Range, _–_, inRange}
 
 abbrev pub spaces : List Range
 spaces =

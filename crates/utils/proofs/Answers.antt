@@ -15,9 +15,9 @@ use Rattle.lists.proofs.AnswerLaws.{refused-ok}
 use Rattle.lists.proofs.PutLaws.{put-front, length-put}
 use Rattle.lists.proofs.Tests.{by-flag}
 use Rattle.model.specs.declared.Refusal.the-variants.{InvalidUtf8, OutputSliceShort}
-use Rattle.unicode.specs.Utf8.{checked, onText}
-use Rattle.unicode.specs.declared.Checked.{Checked}
-use Rattle.unicode.specs.declared.Checked.the-variants.{Valid, Invalid}
+use Rattle.utf8.specs.Utf8.{checked, onText}
+use Rattle.utf8.specs.declared.Checked.{Checked}
+use Rattle.utf8.specs.declared.Checked.the-variants.{Valid, Invalid}
 use Rattle.emphasis.specs.Commas.{parts}
 use Rattle.emphasis.specs.Emphasis.{Choice, plain, marked, choiceOf}
 use Rattle.emphasis.specs.Found.{FoundIn}

@@ -10,7 +10,7 @@ use Rattle.lists.specs.Choose.{choose}
 use Rattle.lists.specs.Put.{put}
 use Rattle.model.specs.Refusals.{Reading}
 use Rattle.model.specs.declared.Refusal.the-variants.{InvalidUtf8, OutputSliceShort}
-use Rattle.unicode.specs.Utf8.{checked, onText}
+use Rattle.utf8.specs.Utf8.{checked, onText}
 use Rattle.emphasis.specs.Emphasis.{Choice, plain, marked, startsWith, choiceOf}
 use Rattle.utils.specs.declared.Measured.{Measured}
 use Rattle.utils.specs.declared.Measured.the-variants.{Plain, Marked}

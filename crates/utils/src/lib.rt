@@ -1,6 +1,6 @@
 // The value split: the allowed values and the default of an output clause.
 use model::Refusal;
-use unicode::Checked;
+use utf8::Checked;
 ghost use mathlib.Core.Path.{_≡_};
 ghost use Prim.Native.Nat.{_≤_, _<_};
 ghost use lib.ListN.{length, take};
@@ -112,7 +112,7 @@ pub fn split_values(text: &[u8], scratch: &mut [u8]) -> Split
     ensures places { λ r. ⌜ Places r (now (text .entry)) (now (scratch .exit)) ⌝ }
     ensures scratch { λ _. ⌜ now (scratch .exit) ≡ scratchOf (now (text .entry)) (now (scratch .entry)) ⌝ }
 {
-    match unicode::validate(text) {
+    match utf8::validate(text) {
         Checked::Invalid(at) => Split::NotSplit(Refusal::InvalidUtf8(at)),
         Checked::Valid => split_text(text, scratch),
     }

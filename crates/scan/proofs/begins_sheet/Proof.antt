@@ -2,7 +2,7 @@
 use mathlib.Core.Path.{sym, _∙_}
 use lib.ListN.{drop}
 use borrow.Author.Needs.{needs}
-use Rattle.unicode.proofs.Utf8Laws.{codes-char, codes-bad, codes-none}
+use Rattle.utf8.proofs.Utf8Laws.{codes-char, codes-bad, codes-none}
 use Rattle.scan.proofs.RowsLaws.{begins-none, begins-nil, begins-cons}
 use Rattle.scan.proofs.begins_sheet.Statement.{statement}
 use Rattle.scan.proofs.begins_sheet.Tie as tie

@@ -4,9 +4,9 @@ use Prim.Native.Nat.{_-_}
 use native.Mathlib.Omega.{arith}
 use lib.ListN.{drop}
 use borrow.Author.Needs.{needs}
-use Rattle.unicode.specs.Utf8.{decode}
-use Rattle.unicode.specs.declared.Decoded.the-variants.{Char}
-use Rattle.unicode.proofs.Utf8Laws.{codes-bad, codes-none}
+use Rattle.utf8.specs.Utf8.{decode}
+use Rattle.utf8.specs.declared.Decoded.the-variants.{Char}
+use Rattle.utf8.proofs.Utf8Laws.{codes-bad, codes-none}
 use Rattle.scan.proofs.RowPutting.{Putting, putting-start, putting-fits, putting-more, putting-stuck, putting-done}
 use Rattle.scan.proofs.put_codes.Statement.{statement}
 use Rattle.scan.proofs.put_codes.Tie as tie

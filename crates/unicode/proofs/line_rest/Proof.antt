@@ -1,7 +1,7 @@
 -- `unicode::line_rest` meets its contract.
-use Rattle.unicode.specs.Utf8.{decode}
-use Rattle.unicode.specs.declared.Decoded.the-variants.{Char}
-use Rattle.unicode.proofs.Utf8Laws.{codes-bad, codes-none}
+use Rattle.utf8.specs.Utf8.{decode}
+use Rattle.utf8.specs.declared.Decoded.the-variants.{Char}
+use Rattle.utf8.proofs.Utf8Laws.{codes-bad, codes-none}
 use Rattle.unicode.proofs.LineLaws.{Scanned, scan-start, scan-fits, scan-white, scan-dark, scan-feed, scan-stop, scan-end}
 use mathlib.Core.Path.{_≡_, sym, _∙_}
 use Prim.Native.Nat.{_-_}

@@ -1,8 +1,8 @@
 -- `unicode::skip_white` meets its contract.
 use native.Mathlib.Nat.{le-refl}
-use Rattle.unicode.specs.Utf8.{decode}
-use Rattle.unicode.specs.declared.Decoded.the-variants.{Char}
-use Rattle.unicode.proofs.Utf8Laws.{codes-bad, codes-end, codes-none}
+use Rattle.utf8.specs.Utf8.{decode}
+use Rattle.utf8.specs.declared.Decoded.the-variants.{Char}
+use Rattle.utf8.proofs.Utf8Laws.{codes-bad, codes-end, codes-none}
 use Rattle.unicode.proofs.LineLaws.{Skipped, skip-fits, skip-more, skip-feed, skip-dark, skip-stop}
 use mathlib.Core.Path.{_≡_, refl, sym, _∙_}
 use Prim.Native.Nat.{_-_}

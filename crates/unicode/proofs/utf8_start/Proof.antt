@@ -2,7 +2,7 @@
 use mathlib.Core.Path.{sym, _∙_}
 use Prim.Native.Nat.{_-_}
 use lib.ListN.{length}
-use Rattle.unicode.proofs.Utf8Laws.{codes-bad, codes-none}
+use Rattle.utf8.proofs.Utf8Laws.{codes-bad, codes-none}
 use Rattle.unicode.proofs.TrimUtf8Laws.{Leading, leading-start, leading-stop, leading-end, leading-fits, leading-white, leading-dark}
 use native.Mathlib.Omega.{arith}
 use borrow.Author.Needs.{needs}

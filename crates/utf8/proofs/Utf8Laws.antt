@@ -10,12 +10,12 @@ use lib.ListN.{length, getD, drop, drop-of-length-le, length-drop}
 use lib.Seq.{drop-drop}
 use lib.Dec.{leb}
 use borrow.Author.Tests.{le-leb, lt-leb}
-use Rattle.unicode.specs.declared.Decoded.{Decoded}
-use Rattle.unicode.specs.declared.Checked.the-variants.{Valid, Invalid}
-use Rattle.unicode.specs.declared.Decoded.the-variants.{Char, IllFormed, End}
+use Rattle.utf8.specs.declared.Decoded.{Decoded}
+use Rattle.utf8.specs.declared.Checked.the-variants.{Valid, Invalid}
+use Rattle.utf8.specs.declared.Decoded.the-variants.{Char, IllFormed, End}
 use Rattle.lists.specs.Choose.{choose}
 use Rattle.lists.proofs.Parts.{at-cons}
-use Rattle.unicode.specs.Utf8.{Range, _–_, inRange, more, by, table, tail, decode, Row, check, read, codes, onward, encode}
+use Rattle.utf8.specs.Utf8.{Range, _–_, inRange, more, by, table, tail, decode, Row, check, read, codes, onward, encode}
 
 module _ (lo hi b : ℕ) where
   pub in-range : lo ≤ b → b ≤ hi → inRange (lo – hi) b ≡ true
@@ -276,3 +276,6 @@ module _ (c : ℕ) where
   pub encode4 : 0xFFFF < c → encode c ≡ (0xF0 + c / 262144 % 8) ∷ (0x80 + c / 4096 % 64) ∷ (0x80 + c / 64 % 64) ∷ (0x80 + c % 64) ∷ []
   unfolding encode
   encode4 a = rw (lt-leb c 0x7F (omega arith), lt-leb c 0x7FF (omega arith), lt-leb c 0xFFFF a)
+
+pub in-range-of : (lo hi c : ℕ) → inRange (lo – hi) c ≡ true → (lo ≤ c) × (c ≤ hi)
+in-range-of lo hi c e = let h = both (leb lo c) (leb c hi) e in (leb-true lo c (h .0), leb-true c hi (h .1))

@@ -1,17 +1,17 @@
--- `unicode::validate` meets its contract.
+-- `utf8::validate` meets its contract.
 use mathlib.Core.Path.{_≡_, refl, sym, _∙_}
 use mathlib.Core.List.{List}
 use Prim.Native.Nat.{ℕ, _+_, _-_, _≤_}
 use native.Mathlib.Omega.{arith}
 use borrow.Author.Needs.{needs}
 use lib.ListN.{length, drop}
-use Rattle.unicode.specs.declared.Decoded.the-variants.{Char}
-use Rattle.unicode.specs.Utf8.{decode, check}
-use Rattle.unicode.specs.LineScan.{codeOf}
-use Rattle.unicode.proofs.Utf8Laws.{char-fits, check-at, check-bad, check-end}
-use Rattle.unicode.proofs.RareLaws.{passed-bad, passed-char}
-use Rattle.unicode.proofs.validate.Statement.{statement}
-use Rattle.unicode.proofs.validate.Tie as tie
+use Rattle.utf8.specs.declared.Decoded.the-variants.{Char}
+use Rattle.utf8.specs.Utf8.{decode, check}
+use Rattle.utf8.specs.Passed.{codeOf}
+use Rattle.utf8.proofs.Utf8Laws.{char-fits, check-at, check-bad, check-end}
+use Rattle.utf8.proofs.RareLaws.{passed-bad, passed-char}
+use Rattle.utf8.proofs.validate.Statement.{statement}
+use Rattle.utf8.proofs.validate.Tie as tie
 
 abbrev Inv-loop : tie.InvT-loop
 Inv-loop s at₀ at = (at ≤ length s) × (check 0 0 s ≡ check 0 at (drop at s))

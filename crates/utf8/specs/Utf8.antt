@@ -4,10 +4,10 @@ use mathlib.Core.List.{List, [], _∷_, _++_}
 use Prim.Native.Nat.{ℕ, zero, suc, _+_, _-_, _*_, _/_, _%_}
 use lib.Dec.{leb}
 use Rattle.lists.specs.Choose.{choose}
-use Rattle.unicode.specs.declared.Decoded.{Decoded}
-use Rattle.unicode.specs.declared.Decoded.the-variants.{Char, IllFormed, End}
-use Rattle.unicode.specs.declared.Checked.{Checked}
-use Rattle.unicode.specs.declared.Checked.the-variants.{Valid, Invalid}
+use Rattle.utf8.specs.declared.Decoded.{Decoded}
+use Rattle.utf8.specs.declared.Decoded.the-variants.{Char, IllFormed, End}
+use Rattle.utf8.specs.declared.Checked.{Checked}
+use Rattle.utf8.specs.declared.Checked.the-variants.{Valid, Invalid}
 
 -- the numbers from the first to the second, both included
 infix 20 _–_

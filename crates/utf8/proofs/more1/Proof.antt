@@ -1,11 +1,11 @@
--- `unicode::more1` meets its contract.
+-- `utf8::more1` meets its contract.
 use mathlib.Core.List.{[]}
-use Rattle.unicode.specs.Utf8.{more}
+use Rattle.utf8.specs.Utf8.{more}
 use mathlib.Core.Path.{sym}
-use Rattle.unicode.proofs.Utf8Laws.{more-end, more-below, more-above, more-in}
+use Rattle.utf8.proofs.Utf8Laws.{more-end, more-below, more-above, more-in}
 use borrow.Author.Needs.{needs}
-use Rattle.unicode.proofs.more1.Statement.{statement}
-use Rattle.unicode.proofs.more1.Tie as tie
+use Rattle.utf8.proofs.more1.Statement.{statement}
+use Rattle.utf8.proofs.more1.Tie as tie
 
 returns : tie.Need-returns
 returns c = let a = c .before .args in sym (more-end _ _ _ _ _ (a .s .now) (a .at) (search needs))

@@ -8,12 +8,12 @@ use lib.ListN.{length, getD, take, drop, length-drop}
 use lib.Dec.{leb}
 use borrow.Author.Tests.{leb-true, leb-false}
 use Rattle.lists.proofs.Parts.{at-cons}
-use Rattle.unicode.specs.declared.Decoded.{Decoded}
-use Rattle.unicode.specs.declared.Decoded.the-variants.{Char, IllFormed, End}
-use Rattle.unicode.specs.Utf8.{decode, encode}
-use Rattle.unicode.specs.LineScan.{codeOf, bytesOf}
-use Rattle.unicode.proofs.Utf8Laws.{decode-none, char-fits, encode1}
-use Rattle.unicode.proofs.Inverse.{encode-decode, decode-size}
+use Rattle.utf8.specs.declared.Decoded.{Decoded}
+use Rattle.utf8.specs.declared.Decoded.the-variants.{Char, IllFormed, End}
+use Rattle.utf8.specs.Utf8.{decode, encode}
+use Rattle.utf8.specs.Passed.{codeOf, bytesOf}
+use Rattle.utf8.proofs.Utf8Laws.{decode-none, char-fits, encode1}
+use Rattle.utf8.proofs.Inverse.{encode-decode, decode-size}
 
 module _ (s : List ℕ) (at : ℕ) (h : at < length s) where
   some : decode (drop at s) ≡ End → ⊥

@@ -13,12 +13,11 @@ use lib.Dec.{leb}
 use borrow.Author.Tests.{leb-true, leb-false}
 use Rattle.lists.specs.Choose.{choose}
 use Rattle.lists.proofs.Tests.{by-flag}
-use Rattle.unicode.specs.declared.Decoded.{Decoded}
-use Rattle.unicode.specs.declared.Decoded.the-variants.{Char, IllFormed, End}
-use Rattle.unicode.specs.declared.Checked.the-variants.{Valid, Invalid}
-use Rattle.unicode.specs.Utf8.{Range, _–_, inRange, tail, more, Row, table, by, decode, onward, check, checked, read, codes, encode, encodes}
-use Rattle.unicode.proofs.Utf8Laws.{in-range, row1, row2, row3, row4, row5, row6, row7, row8, row9, decode-fits, check-char, codes-char, encode1, encode2, encode3, encode4}
-use Rattle.unicode.proofs.WhiteLaws.{in-range-of}
+use Rattle.utf8.specs.declared.Decoded.{Decoded}
+use Rattle.utf8.specs.declared.Decoded.the-variants.{Char, IllFormed, End}
+use Rattle.utf8.specs.declared.Checked.the-variants.{Valid, Invalid}
+use Rattle.utf8.specs.Utf8.{Range, _–_, inRange, tail, more, Row, table, by, decode, onward, check, checked, read, codes, encode, encodes}
+use Rattle.utf8.proofs.Utf8Laws.{in-range-of, in-range, row1, row2, row3, row4, row5, row6, row7, row8, row9, decode-fits, check-char, codes-char, encode1, encode2, encode3, encode4}
 
 -- a Unicode scalar value (the standard's definition D76): a code point that is no surrogate
 abbrev pub Scalar : ℕ → Type 0

@@ -1,15 +1,15 @@
--- `unicode::two_more` meets its contract.
+-- `utf8::two_more` meets its contract.
 use mathlib.Core.Path.{_≡_, sym, ap, _∙_}
 use mathlib.Core.List.{[], _∷_}
 use Prim.Native.Nat.{ℕ, _+_, _-_, _*_}
 use native.Mathlib.Omega.{arith}
 use lib.ListN.{getD}
 use borrow.Author.Needs.{needs}
-use Rattle.unicode.specs.declared.Decoded.the-variants.{Char}
-use Rattle.unicode.specs.Utf8.{more, tail}
-use Rattle.unicode.proofs.Utf8Laws.{more-below, more-above, more-in}
-use Rattle.unicode.proofs.two_more.Statement.{statement}
-use Rattle.unicode.proofs.two_more.Tie as tie
+use Rattle.utf8.specs.declared.Decoded.the-variants.{Char}
+use Rattle.utf8.specs.Utf8.{more, tail}
+use Rattle.utf8.proofs.Utf8Laws.{more-below, more-above, more-in}
+use Rattle.utf8.proofs.two_more.Statement.{statement}
+use Rattle.utf8.proofs.two_more.Tie as tie
 
 add-p : tie.Need-add-p
 add-p c = search needs

@@ -1,14 +1,14 @@
--- `unicode::from_table` meets its contract.
+-- `utf8::from_table` meets its contract.
 use mathlib.Core.Path.{_≡_, refl, sym, _∙_}
 use mathlib.Core.List.{List}
 use Prim.Native.Nat.{ℕ, _+_, _<_}
 use lib.ListN.{length, getD, drop}
-use Rattle.unicode.specs.Utf8.{decode, by, table}
-use Rattle.unicode.specs.declared.Decoded.{Decoded}
-use Rattle.unicode.proofs.Utf8Laws.{decode-end, decode-at, row1, row2, row3, row4, row5, row6, row7, row8, row9, row-gap, row-none}
+use Rattle.utf8.specs.Utf8.{decode, by, table}
+use Rattle.utf8.specs.declared.Decoded.{Decoded}
+use Rattle.utf8.proofs.Utf8Laws.{decode-end, decode-at, row1, row2, row3, row4, row5, row6, row7, row8, row9, row-gap, row-none}
 use borrow.Author.Needs.{needs}
-use Rattle.unicode.proofs.from_table.Statement.{statement}
-use Rattle.unicode.proofs.from_table.Tie as tie
+use Rattle.utf8.proofs.from_table.Statement.{statement}
+use Rattle.utf8.proofs.from_table.Tie as tie
 
 -- what the first byte's row says, at a position within the list
 here : (s : List ℕ) (at : ℕ) (d e : Decoded) → at < length s → d ≡ e → by table (getD s at 0) (drop (at + 1) s) ≡ e → d ≡ decode (drop at s)

@@ -1,12 +1,12 @@
--- `unicode::next` meets its contract.
+-- `utf8::next` meets its contract.
 use mathlib.Core.Path.{sym, ap, _∙_}
 use Prim.Native.Nat.{_+_}
 use lib.ListN.{length, getD, drop}
 use borrow.Author.Needs.{needs}
-use Rattle.unicode.proofs.Utf8Laws.{decode-end, decode-at, row1, row4, encode2, encode3, encode4}
-use Rattle.unicode.proofs.RareLaws.{told-bad, told}
-use Rattle.unicode.proofs.next.Statement.{statement}
-use Rattle.unicode.proofs.next.Tie as tie
+use Rattle.utf8.proofs.Utf8Laws.{decode-end, decode-at, row1, row4, encode2, encode3, encode4}
+use Rattle.utf8.proofs.RareLaws.{told-bad, told}
+use Rattle.utf8.proofs.next.Statement.{statement}
+use Rattle.utf8.proofs.next.Tie as tie
 
 returns : tie.Need-returns
 returns c =

@@ -1,13 +1,13 @@
--- `unicode::passed` meets its contract.
+-- `utf8::passed` meets its contract.
 use mathlib.Core.Path.{sym, ap, _∙_}
 use Prim.Native.Nat.{_+_}
 use lib.ListN.{length, getD, drop}
 use borrow.Author.Needs.{needs}
-use Rattle.unicode.specs.LineScan.{bytesOf}
-use Rattle.unicode.proofs.Utf8Laws.{decode-at, row1, row4, encode2, encode3, encode4}
-use Rattle.unicode.proofs.RareLaws.{told-bad, told}
-use Rattle.unicode.proofs.passed.Statement.{statement}
-use Rattle.unicode.proofs.passed.Tie as tie
+use Rattle.utf8.specs.Passed.{bytesOf}
+use Rattle.utf8.proofs.Utf8Laws.{decode-at, row1, row4, encode2, encode3, encode4}
+use Rattle.utf8.proofs.RareLaws.{told-bad, told}
+use Rattle.utf8.proofs.passed.Statement.{statement}
+use Rattle.utf8.proofs.passed.Tie as tie
 
 shared-slice-read-a : tie.Need-shared-slice-read-a
 shared-slice-read-a c = search needs

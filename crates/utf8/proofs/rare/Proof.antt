@@ -1,9 +1,9 @@
--- `unicode::rare` meets its contract.
+-- `utf8::rare` meets its contract.
 use mathlib.Core.Path.{sym, ap, _∙_}
 use borrow.Author.Needs.{needs}
-use Rattle.unicode.specs.LineScan.{codeOf}
-use Rattle.unicode.proofs.rare.Statement.{statement}
-use Rattle.unicode.proofs.rare.Tie as tie
+use Rattle.utf8.specs.Passed.{codeOf}
+use Rattle.utf8.proofs.rare.Statement.{statement}
+use Rattle.utf8.proofs.rare.Tie as tie
 
 from-table-requires : tie.Need-from-table-requires
 from-table-requires c κs = search needs
