@@ -9,12 +9,13 @@ use native.Mathlib.Omega.{arith}
 use lib.ListN.{length, getD, drop, drop-of-length-le, length-drop}
 use lib.Seq.{drop-drop}
 use lib.Dec.{leb}
-use borrow.Author.Tests.{le-leb, lt-leb}
+use borrow.Author.Tests.{le-leb, lt-leb, leb-true}
 use Rattle.utf8.specs.declared.Decoded.{Decoded}
 use Rattle.utf8.specs.declared.Checked.the-variants.{Valid, Invalid}
 use Rattle.utf8.specs.declared.Decoded.the-variants.{Char, IllFormed, End}
 use Rattle.lists.specs.Choose.{choose}
 use Rattle.lists.proofs.Parts.{at-cons}
+use Rattle.lists.proofs.Tests.{both}
 use Rattle.utf8.specs.Utf8.{Range, _–_, inRange, more, by, table, tail, decode, Row, check, read, codes, onward, encode}
 
 module _ (lo hi b : ℕ) where
