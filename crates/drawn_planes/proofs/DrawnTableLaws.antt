@@ -39,12 +39,11 @@ use Rattle.canvas.specs.DrawnPlane.{textPlaneOf, PlaneRoom}
 use Rattle.canvas.specs.Layers.{textLayer, drawingBy, drawingOf, sheetBy, sheetOf}
 use Rattle.canvas.proofs.NameIsFirstRegion.{name-is-first-region}
 use Rattle.recognizer.specs.StatedPolicy.{statedPolicy}
-use Rattle.recognizer.specs.Told.{tableRead}
 use Rattle.tables.specs.NamedTable.{nameOf, NameIn}
 use Rattle.policies.specs.DrawnPolicy.{drawnPlaneBy, nameBy, policyBy, walkedPolicy}
 use Rattle.policies.specs.LentPolicy.{textIn}
 use Rattle.policies.proofs.DrawnWithin.{read, gathered}
-use Rattle.drawn_planes.specs.DrawnTable.{NamedPlane, namedPlane}
+use Rattle.drawn_planes.specs.DrawnTable.{NamedPlane, namedPlane, namedPolicy}
 
 -- a sheet that is drawn fits the canvas
 drawn-fits : (rs : List (List ℕ)) (o : Outline) → drawingOf rs ≡ ok o → fits rs ≡ true
@@ -178,8 +177,8 @@ pub not-drawn : (s : List ℕ) (r : Refusal) → refused r ≡ sheetOf s → ref
 unfolding namedPlane
 not-drawn s r e = rw (← e)
 
--- the policy of a drawing's plane
-first-region : (s : List ℕ) → walkedPolicy s ≡ _>>=_ (namedPlane s) (λ p. statedPolicy (nameOf (p .named) (textIn (p .read))) (textIn (p .read)) (p .read .plane))
+-- a drawing states what its plane does
+pub first-region : (s : List ℕ) → walkedPolicy s ≡ namedPolicy (namedPlane s)
 unfolding policyBy namedPlane
 first-region s = go (sheetOf s) refl
   where
@@ -195,10 +194,3 @@ first-region s = go (sheetOf s) refl
         (λ p. statedPolicy (nameOf (p .named) (textIn (p .read))) (textIn (p .read)) (p .read .plane))
     go (ok o) e = planed o e (drawnPlaneBy frameOf (rowsAt s 0) o) refl
     go (refused r) e = refl
-
-pub no-policy : (s : List ℕ) (r : Refusal) → refused r ≡ namedPlane s → refused r ≡ tableRead (walkedPolicy s)
-no-policy s r e = rw (first-region s, ← e)
-
-pub drawn-policy : (s : List ℕ) (p : NamedPlane) → ok p ≡ namedPlane s
-    → tableRead (statedPolicy (nameOf (p .named) (textIn (p .read))) (textIn (p .read)) (p .read .plane)) ≡ tableRead (walkedPolicy s)
-drawn-policy s p e = rw (first-region s, ← e)

@@ -13,8 +13,11 @@ use Rattle.scan.specs.Canvas.{rowsAt}
 use Rattle.walks.specs.Frame.{frameOf}
 use Rattle.canvas.specs.Drawn.{Room}
 use Rattle.canvas.specs.Layers.{sheetOf}
-use Rattle.tables.specs.NamedTable.{NameIn}
+use Rattle.record.specs.Policy.{Policy}
+use Rattle.recognizer.specs.StatedPolicy.{statedPolicy}
+use Rattle.tables.specs.NamedTable.{nameOf, NameIn}
 use Rattle.policies.specs.DrawnPolicy.{drawnPlaneBy}
+use Rattle.policies.specs.LentPolicy.{textIn}
 use Rattle.drawn_planes.specs.declared.DrawnRows.{DrawnRows}
 use Rattle.drawn_planes.specs.declared.DrawnRows.the-variants.{Rows, NotDrawn}
 
@@ -28,6 +31,12 @@ namedPlane s = do
   o ← sheetOf s
   t ← drawnPlaneBy frameOf (rowsAt s 0) o
   ok (record { named = o .named; read = t })
+
+-- what it states, with the first region's text for a name
+abbrev pub namedPolicy : Reading NamedPlane → Reading Policy
+namedPolicy m = do
+  p ← m
+  statedPolicy (nameOf (p .named) (textIn (p .read))) (textIn (p .read)) (p .read .plane)
 
 -- an answer's plane, with the slices that hold it
 abbrev pub drawnIn : DrawnRows → List ℕ → List ℕ → List ℕ → Reading NamedPlane

@@ -4,14 +4,43 @@ use model::limits::TEXT_BYTES;
 use recognizer::Recognized;
 use records::Outcome;
 ghost use mathlib.Core.Path.{_≡_};
-ghost use Prim.Native.Nat.{_≤_};
+ghost use Prim.Native.Nat.{_*_, _≤_};
 ghost use lib.ListN.{length, take};
-ghost use Rattle.model.specs.Limits.{textBytes};
+ghost use Rattle.model.specs.Limits.{planeSize, textBytes};
+ghost use Rattle.record.specs.Slots.{slotLimit};
 ghost use Rattle.recognizer.specs.Told.{tableRead};
 ghost use Rattle.tables.specs.NamedTable.{namedTable, AnswerHeld};
 ghost use Rattle.policies.specs.DrawnPolicy.{walkedPolicy};
 ghost use Rattle.records.specs.Outcomes.{outcomeOf, recordOf};
-ghost use Rattle.drawn_planes.specs.DrawnTable.{DrawnRoom};
+ghost use Rattle.drawn_planes.specs.DrawnTable.{namedPolicy, drawnIn, DrawnHeld, DrawnRoom};
+
+// The table of a plane that is drawn, or why there is none.
+fn table_of(
+    d: DrawnRows,
+    plane: &[u32],
+    bytes: &[u8],
+    spans: &[u32],
+    upright: &mut [u32],
+    slots: &mut [u32],
+) -> Recognized
+    requires { ⌜ DrawnHeld d (now plane) (now bytes) (now spans) × (textBytes ≤ length (now bytes)) × (planeSize ≤ length (now upright)) × (3 * slotLimit ≤ length (now slots)) ⌝ }
+    ensures table { λ r. ⌜ namedTable r (take textBytes (now (bytes .entry))) (now (slots .exit)) ≡ tableRead (namedPolicy (drawnIn d (now (plane .entry)) (now (bytes .entry)) (now (spans .entry)))) ⌝ }
+    ensures held { λ r. ⌜ AnswerHeld r (take textBytes (now (bytes .entry))) (now (slots .exit)) ⌝ }
+{
+    match d {
+        DrawnRows::Rows(n, count, named) => tables::plane_table(
+            plane,
+            n,
+            &bytes[0..TEXT_BYTES],
+            spans,
+            count,
+            named,
+            upright,
+            slots,
+        ),
+        DrawnRows::NotDrawn(r) => Recognized::NotRecognized(r),
+    }
+}
 
 // The table of a drawing. Once there is a plane the layers are not needed: the upright sheet goes where BODY was,
 // the slots where THIN was.
@@ -30,19 +59,8 @@ fn drawn_table(
     ensures table { λ r. ⌜ namedTable r (take textBytes (now (bytes .exit))) (now (thins .exit)) ≡ tableRead (walkedPolicy (now (s .entry))) ⌝ }
     ensures held { λ r. ⌜ AnswerHeld r (take textBytes (now (bytes .exit))) (now (thins .exit)) ⌝ }
 {
-    match drawn_planes::drawn_plane(s, text, thins, bodies, grid, rects, bytes, spans, plane) {
-        DrawnRows::Rows(n, count, named) => tables::plane_table(
-            plane,
-            n,
-            &bytes[0..TEXT_BYTES],
-            spans,
-            count,
-            named,
-            bodies,
-            thins,
-        ),
-        DrawnRows::NotDrawn(r) => Recognized::NotRecognized(r),
-    }
+    let d = drawn_planes::drawn_plane(s, text, thins, bodies, grid, rects, bytes, spans, plane);
+    table_of(d, plane, bytes, spans, bodies, thins)
 }
 
 // The record of a drawing.
@@ -63,14 +81,6 @@ pub fn sheet_record(
     ensures outcome { λ r. ⌜ r ≡ outcomeOf (tableRead (walkedPolicy (now (s .entry)))) (length (now (out .entry))) ⌝ }
     ensures out { λ _. ⌜ now (out .exit) ≡ recordOf (tableRead (walkedPolicy (now (s .entry)))) (now (out .entry)) ⌝ }
 {
-    match drawn_table(s, text, thins, bodies, grid, rects, bytes, spans, plane) {
-        Recognized::Stands(t) => records::write_table(
-            t,
-            &bytes[0..TEXT_BYTES],
-            thins,
-            scratch,
-            out,
-        ),
-        Recognized::NotRecognized(r) => Outcome::Refused(r),
-    }
+    let t = drawn_table(s, text, thins, bodies, grid, rects, bytes, spans, plane);
+    records::write_recognized(t, &bytes[0..TEXT_BYTES], thins, scratch, out)
 }

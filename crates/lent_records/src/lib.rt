@@ -63,7 +63,7 @@ pub fn lent_record(
     ensures outcome { λ r. ⌜ r ≡ outcomeOf (tableRead (lentPolicy (record { rows = now (rows .entry); kinds = now (kinds .entry); regions = now (regions .entry); offsets = now (offsets .entry); sizes = now (sizes .entry); bytes = now (bytes .entry) }))) (length (now (out .entry))) ⌝ }
     ensures out { λ _. ⌜ now (out .exit) ≡ recordOf (tableRead (lentPolicy (record { rows = now (rows .entry); kinds = now (kinds .entry); regions = now (regions .entry); offsets = now (offsets .entry); sizes = now (sizes .entry); bytes = now (bytes .entry) }))) (now (out .entry)) ⌝ }
 {
-    match lent_table(
+    let t = lent_table(
         rows,
         kinds,
         regions,
@@ -74,8 +74,6 @@ pub fn lent_record(
         spans,
         upright,
         slots,
-    ) {
-        Recognized::Stands(t) => records::write_table(t, bytes, slots, scratch, out),
-        Recognized::NotRecognized(r) => Outcome::Refused(r),
-    }
+    );
+    records::write_recognized(t, bytes, slots, scratch, out)
 }

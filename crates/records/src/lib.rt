@@ -1,5 +1,6 @@
 // The record of a table that is read, or why there is none.
 use model::Refusal;
+use recognizer::Recognized;
 use recognizer::SlotTable;
 use record::Begun;
 use record::Head;
@@ -9,7 +10,7 @@ ghost use lib.ListN.{length};
 ghost use Rattle.model.specs.Limits.{textBytes};
 ghost use Rattle.record.specs.Slots.{slotLimit};
 ghost use Rattle.recognizer.specs.declared.Recognized.the-variants.{Stands};
-ghost use Rattle.tables.specs.NamedTable.{namedTable, NamedHeld};
+ghost use Rattle.tables.specs.NamedTable.{namedTable, AnswerHeld, NamedHeld};
 ghost use Rattle.records.specs.Outcomes.{outcomeOf, recordOf};
 
 // A record of so many bytes, or why there is none.
@@ -19,7 +20,7 @@ pub enum Outcome {
 }
 
 // The record of a table whose texts stand in slots.
-pub fn write_table(
+fn write_table(
     t: SlotTable,
     bytes: &[u8],
     slots: &[u32],
@@ -43,5 +44,23 @@ pub fn write_table(
     match writer::write_record(bytes, slots, t.slots, t.bytes, head, scratch, out) {
         Begun::Record(total) => Outcome::Record(total),
         Begun::NotWritten(r) => Outcome::Refused(r),
+    }
+}
+
+// The record of a table that stands, or its refusal.
+pub fn write_recognized(
+    a: Recognized,
+    bytes: &[u8],
+    slots: &[u32],
+    scratch: &mut [u8],
+    out: &mut [u8],
+) -> Outcome
+    requires { ⌜ AnswerHeld a (now bytes) (now slots) × (3 * slotLimit ≤ length (now slots)) × (textBytes ≤ length (now scratch)) ⌝ }
+    ensures outcome { λ r. ⌜ r ≡ outcomeOf (namedTable a (now (bytes .entry)) (now (slots .entry))) (length (now (out .entry))) ⌝ }
+    ensures out { λ _. ⌜ now (out .exit) ≡ recordOf (namedTable a (now (bytes .entry)) (now (slots .entry))) (now (out .entry)) ⌝ }
+{
+    match a {
+        Recognized::Stands(t) => write_table(t, bytes, slots, scratch, out),
+        Recognized::NotRecognized(r) => Outcome::Refused(r),
     }
 }
