@@ -1,5 +1,5 @@
 -- Above the main crossing of an outline the body's top side has a ╥, and the annotation crossing below it stands below it.
-use mathlib.Core.Path.{_≡_, refl, ap, _∙_, subst}
+use mathlib.Core.Path.{_≡_, refl, subst}
 use mathlib.Core.Bool.{Bool, true, false, _||_}
 use mathlib.Core.List.{List, [], _∷_}
 use Prim.Native.Nat.{ℕ, _+_, _-_, _/_, _%_, _<_}
@@ -21,9 +21,8 @@ use Rattle.walks.proofs.WalkLaws.{found-side, found-bound}
 use Rattle.frames.specs.Body.{bodyOf}
 use Rattle.along.specs.Characters.{searchedOf, allowedOf, alongOf}
 use Rattle.along.specs.declared.Lines.the-variants.{Body}
-use Rattle.outline.specs.Outline.{crossingBy, belowOf, tableOf, outlineBy}
-use Rattle.outline.specs.declared.Crossing.{Crossing}
-use Rattle.outline.specs.declared.Crossing.the-variants.{At, Nowhere}
+use Rattle.outline.specs.Outline.{crossingBy, tableOf, outlineBy}
+use Rattle.outline.specs.declared.Crossing.the-variants.{At}
 use Rattle.outline.specs.declared.Outline.{Outline}
 use Rattle.outline.proofs.InsideLaws.{outline-table}
 

@@ -1,4 +1,4 @@
--- In a plane whose rows have cells the hit policy is looked up, and no number stands behind a missing cell of column 0.
+-- In a plane whose rows have cells both corners can be read, and no cell of column 0 is missing.
 use mathlib.Core.Path.{_≡_, refl}
 use mathlib.Core.List.{List, [], _∷_, map}
 use mathlib.Core.Option.{Option, none, some}
@@ -6,7 +6,7 @@ use Prim.Native.Nat.{ℕ, zero, suc, _+_, _<_}
 use native.Mathlib.Omega.{arith}
 use lib.Dec.{eqb}
 use lib.ListN.{length, drop}
-use Rattle.lists.specs.Answer.{ok, refused, _>>=_}
+use Rattle.lists.specs.Answer.{ok}
 use Rattle.lists.specs.Choose.{onSome}
 use Rattle.lists.proofs.AllLaws.{All}
 use Rattle.model.specs.Refusals.{Reading}

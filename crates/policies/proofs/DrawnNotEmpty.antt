@@ -1,9 +1,9 @@
 -- What the whole reader does not come to: number 8, and number 10 where a row has no cells.
-use mathlib.Core.Path.{_≡_, refl}
+use mathlib.Core.Path.{_≡_}
 use mathlib.Core.List.{List, map}
 use Prim.Native.Nat.{ℕ}
 use lib.ListN.{drop}
-use Rattle.lists.specs.Answer.{ok, refused, _>>=_}
+use Rattle.lists.specs.Answer.{ok, refused}
 use Rattle.lists.proofs.AnswerLaws.{refused-ok}
 use Rattle.model.specs.Refusals.{Reading}
 use Rattle.model.specs.declared.Refusal.the-variants.{PlaneEmpty}
@@ -13,7 +13,6 @@ use Rattle.placement.specs.Placement.{first, placementOf, counted}
 use Rattle.scan.specs.Canvas.{rowsAt}
 use Rattle.walks.specs.Frame.{FrameFinder}
 use Rattle.canvas.specs.Layers.{sheetBy}
-use Rattle.recognizer.specs.StatedPolicy.{statedPolicy}
 use Rattle.policies.specs.DrawnPolicy.{drawnPlaneBy, nameBy, policyBy, walkedPolicy, drawnPolicy}
 use Rattle.policies.specs.LentPolicy.{textIn}
 use Rattle.policies.proofs.CornersStand.{Answers, placement-answers, column-counted}

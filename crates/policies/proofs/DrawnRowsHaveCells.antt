@@ -10,49 +10,31 @@ use Rattle.lists.specs.Answer.{ok}
 use Rattle.lists.specs.OneOf.{oneOf}
 use Rattle.lists.specs.Picture.{canvas}
 use Rattle.lists.proofs.AllLaws.{All}
-use Rattle.lists.proofs.AnswerLaws.{refused-ok}
 use Rattle.lists.proofs.PictureLaws.{within-in}
-use Rattle.lists.proofs.Tests.{by-flag, true-false}
+use Rattle.lists.proofs.Tests.{true-false}
 use Rattle.model.specs.Box.{┬, ╥}
 use Rattle.cells.specs.Plane.{TextPlane}
 use Rattle.layers.specs.Thin.{thinOf}
 use Rattle.layers.proofs.TopSideLaws.{tee-in-grid}
-use Rattle.outline.specs.Outline.{outlineBy}
 use Rattle.outline.specs.declared.Crossing.{Crossing}
 use Rattle.outline.specs.declared.Crossing.the-variants.{At, Nowhere}
 use Rattle.outline.specs.declared.Outline.{Outline}
 use Rattle.outline.proofs.EdgeLaws.{Edged, outline-edged}
 use Rattle.outline.proofs.InsideLaws.{Inside, outline-inside}
 use Rattle.regions.specs.Regions.{Finder, isCorner}
-use Rattle.scan.specs.Canvas.{rowsAt, fits, sizeOf}
+use Rattle.scan.specs.Canvas.{rowsAt}
 use Rattle.scan.specs.Rows.{widest, blank, flat}
 use Rattle.step.specs.PlaneStep.{isAt}
 use Rattle.step.proofs.PlaneHasRows.{plane-has-rows}
 use Rattle.step.proofs.RowsHaveCells.{HasCells, rows-have-cells}
-use Rattle.utf8.specs.Utf8.{checked}
-use Rattle.utf8.specs.declared.Checked.{Checked}
-use Rattle.utf8.specs.declared.Checked.the-variants.{Valid, Invalid}
 use Rattle.walks.specs.Frame.{FrameFinder}
 use Rattle.walks.specs.Kinds as kind
-use Rattle.canvas.specs.Layers.{textLayer, thinLayer, gridLayer, drawingBy, sheetBy}
+use Rattle.canvas.specs.Layers.{textLayer, thinLayer, gridLayer, sheetBy}
 use Rattle.policies.specs.DrawnPolicy.{drawnPlaneBy}
 use Rattle.policies.proofs.DrawnWithin.{read-by}
+use Rattle.policies.proofs.SheetDrawn.{sheet-outline}
 
--- the outline of a sheet is that of its TEXT
-drawing-outline : (find : FrameFinder) (rs : List (List ℕ)) (o : Outline) → drawingBy find rs ≡ ok o → outlineBy find (textLayer rs) (widest rs) (length rs) ≡ ok o
-unfolding drawingBy sizeOf
-drawing-outline find rs o e = by-flag (fits rs) (λ t. rw t at e) (λ t. refused-ok (rw t at e))
-
-sheet-outline : (find : FrameFinder) (s : List ℕ) (o : Outline) → sheetBy find s ≡ ok o
-    → outlineBy find (textLayer (rowsAt s 0)) (widest (rowsAt s 0)) (length (rowsAt s 0)) ≡ ok o
-unfolding sheetBy
-sheet-outline find s o e = drawing-outline find (rowsAt s 0) o (go (checked s) refl)
-  where
-    go : (k : Checked) → checked s ≡ k → drawingBy find (rowsAt s 0) ≡ ok o
-    go Valid f = rw f at e
-    go (Invalid at) f = refused-ok (rw f at e)
-
--- a ╥ is a corner of THIN
+-- ╥ is ┬ in THIN, and that is a corner
 thin-edge : thinOf ╥ ≡ ┬
 unfolding thinOf oneOf
 thin-edge = refl

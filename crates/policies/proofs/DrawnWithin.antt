@@ -27,14 +27,14 @@ use Rattle.outline.specs.declared.Outline.{Outline}
 use Rattle.regions.specs.Regions.{Finder, regionsOf}
 use Rattle.lookup.specs.Lookup.{regionOf}
 use Rattle.scan.specs.Rows.{widest}
-use Rattle.step.specs.PlaneStep.{Row, Rows, isAt, outputLine, annotationLine, addLine, cornersIn, fitting, withCell, addCell, rowBy, addRow, addFrames, addGridRow, noRows, rowsBy, planeBy, planeOf}
+use Rattle.step.specs.PlaneStep.{Row, Rows, isAt, outputLine, annotationLine, addLine, cornersIn, fitting, withCell, addCell, rowBy, addRow, addFrames, addGridRow, noRows, rowsBy, planeBy}
 use Rattle.texts.specs.RegionText.{textOf, packed, textsOf}
 use Rattle.texts.proofs.TextsLaws.{texts-are, texts-fit}
 use Rattle.walks.specs.Frame.{FrameFinder, frameOf}
 use Rattle.walks.specs.Kinds as kind
 use Rattle.canvas.specs.DrawnPlane.{textPlaneBy}
 use Rattle.canvas.specs.Layers.{textLayer, thinLayer, gridLayer}
-use Rattle.canvas.specs.RegionTexts.{Regions, regionTextsBy, regionTextsOf}
+use Rattle.canvas.specs.RegionTexts.{Regions, regionTextsBy}
 use Rattle.canvas.proofs.NameIsFirstRegion.{name-is-first-region}
 use Rattle.policies.specs.DrawnPolicy.{drawnPlaneBy, nameBy}
 use Rattle.policies.proofs.SpelledShort.{Short}

@@ -6,6 +6,7 @@ pub mod PlaneRecordable
 pub mod LentWithin
 pub mod DrawnWithin
 pub mod StatedFits
+pub mod SheetDrawn
 pub mod NeverLaws
 pub mod CornersStand
 pub mod DrawnRowsHaveCells

@@ -1,19 +1,18 @@
 -- No step from the bytes of a drawing to its plane is refused by number 8.
-use mathlib.Core.Path.{_≡_, refl}
+use mathlib.Core.Path.{refl}
 use mathlib.Core.Bool.{Bool, true, false, _&&_}
 use mathlib.Core.List.{List, [], _∷_, map}
 use mathlib.Core.Option.{Option, none, some}
 use Prim.Native.Nat.{ℕ, zero, suc, _+_, _-_, _*_, _/_, _%_}
 use lib.Dec.{eqb, leb, ltb}
 use lib.ListN.{length}
-use Rattle.lists.specs.Answer.{ok, refused, _>>=_, those}
+use Rattle.lists.specs.Answer.{ok, refused, those}
 use Rattle.lists.specs.Choose.{choose}
 use Rattle.lists.specs.OneOf.{oneOf}
 use Rattle.lists.specs.Picture.{Picture, at}
 use Rattle.model.specs.Box.{┌, ╥, ╬}
 use Rattle.model.specs.Geometry.{containsOf}
 use Rattle.model.specs.Limits.{planeRows, planeCells, regionCount, textBytes}
-use Rattle.model.specs.Refusals.{Reading}
 use Rattle.model.specs.declared.Cell.{Cell}
 use Rattle.model.specs.declared.Rect.{Rect}
 use Rattle.model.specs.declared.Refusal.the-variants.{InvalidUtf8}
@@ -38,7 +37,7 @@ use Rattle.walks.specs.Walk.{walkFrom, goOf}
 use Rattle.walks.specs.declared.Direction.the-variants.{Right, Down, Left, Up}
 use Rattle.canvas.specs.DrawnPlane.{textPlaneBy}
 use Rattle.canvas.specs.Layers.{textLayer, thinLayer, gridLayer, drawingBy, sheetBy}
-use Rattle.canvas.specs.RegionTexts.{Regions, regionTextsBy}
+use Rattle.canvas.specs.RegionTexts.{regionTextsBy}
 use Rattle.policies.specs.DrawnPolicy.{drawnPlaneBy, nameBy}
 use Rattle.policies.proofs.NeverLaws.{Never, never-then, never-if, never-each}
 

@@ -6,7 +6,7 @@ use mathlib.Core.Option.{Option, none, some}
 use Prim.Native.Nat.{ℕ, zero, suc, _+_, _-_}
 use lib.Dec.{eqb, ltb}
 use lib.ListN.{length, drop}
-use Rattle.lists.specs.Answer.{ok, refused, _>>=_, _>>_}
+use Rattle.lists.specs.Answer.{ok, _>>_}
 use Rattle.lists.specs.Choose.{choose, onSome}
 use Rattle.lists.specs.OneOf.{oneOf}
 use Rattle.lists.specs.Transpose.{width}
@@ -28,7 +28,7 @@ use Rattle.record.specs.Policy.{Text}
 use Rattle.placement.specs.Orientation.{asRows, asColumns, asCrossTab, orientedBy, orientedOf, holds}
 use Rattle.placement.specs.Placement.{first, last, placeBehind, numberIn, placementOf, counted, countedBehind, numbersLeft, numbersRight, rightOf, ruleNumbersOf}
 use Rattle.turning.specs.Upright.{butLast, wide, pivotOf, uprightOf}
-use Rattle.plane.specs.Sheet.{Sheet, statedSheet}
+use Rattle.plane.specs.Sheet.{statedSheet}
 use Rattle.allowed.specs.Allowed.{allowedTwo, allowedThree, allowedOf}
 use Rattle.allowed.specs.Readings.{refuse}
 use Rattle.allowed.specs.SheetCells.{widthOf, cellIn, regionAt, columnIs, columnsAre, Met, twice, once, meetRow, onMet, apartFrom, allApart}

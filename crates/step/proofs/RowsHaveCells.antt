@@ -1,5 +1,5 @@
 -- Each row of a plane has cells, where a frame starts in a row above the line rows: the theorem `rows-have-cells`.
-use mathlib.Core.Path.{_≡_, refl, sym, subst}
+use mathlib.Core.Path.{_≡_, refl, subst}
 use mathlib.Core.Bool.{Bool, true, false}
 use mathlib.Core.List.{List, [], _∷_, _++_}
 use mathlib.Core.Logic.{⊎-elim}
@@ -16,7 +16,7 @@ use Rattle.lists.specs.Run.{build}
 use Rattle.lists.proofs.AllLaws.{All, all-none, all-one, all-append}
 use Rattle.lists.proofs.AnswerLaws.{refused-ok, then-ok}
 use Rattle.lists.proofs.RunLaws.{length-run}
-use Rattle.lists.proofs.Tests.{by-flag, true-false}
+use Rattle.lists.proofs.Tests.{true-false}
 use Rattle.model.specs.Limits.{planeRows}
 use Rattle.model.specs.Refusals.{Reading}
 use Rattle.model.specs.declared.Cell.{Cell}
@@ -123,10 +123,12 @@ module _ (o : Outline) (find : Finder) (regions : List Rect) (p : Picture) (w : 
         let c = then-ok (rowBy o find regions p w n y start) (addRow (b .0)) t (b .2) in
         let u = line-if (eqb y (o .y)) (outputLine (s .output) (s .annotation)) s (a .0) (a .1) (λ f. q .1 (omega (arith, main, eqb-true y (o .y) f))) (q .0) in
         let v = line-if (isAt (o .below) y) (annotationLine (a .0 .output)) (a .0) (b .0) (b .1) (λ f. u .1 (q .1 (below y f))) (u .0) in
-        let r = row-keeps (b .0) t (c .0) (c .2) (v .0) in
-        (r .0 .0, λ l.
-        ⊎-elim (λ i. r .1 (row-has-cells y x (subst (λ (j : ℕ). isCorner (p x j) ≡ true) i corner) n start (c .0) column (c .1)))
-        (λ m. r .0 .1 (v .1 (u .1 (q .1 m)))) (eq-or-lt-of-le (le-of-suc-le-suc l)))
+        let r = row-keeps (b .0) t (c .0) (c .2) (v .0) in (
+          r .0 .0,
+          λ l.
+              ⊎-elim (λ i. r .1 (row-has-cells y x (subst (λ (j : ℕ). isCorner (p x j) ≡ true) i corner) n start (c .0) column (c .1)))
+              (λ m. r .0 .1 (v .1 (u .1 (q .1 m)))) (eq-or-lt-of-le (le-of-suc-le-suc l)),
+        )
 
     pub rows-have-cells : (h : ℕ) (P : Plane) → planeBy find o regions p w h ≡ ok P → All HasCells P
     unfolding planeBy
