@@ -25,6 +25,7 @@ use Rattle.scan.proofs.Answers.{scanned-size, fits-size}
 use Rattle.scan.proofs.TextLayer.{text-canvas, blanks-canvas}
 use Rattle.utf8.specs.Utf8.{checked}
 use Rattle.utf8.specs.declared.Checked.the-variants.{Valid, Invalid}
+use Rattle.walks.specs.Frame.{frameOf}
 use Rattle.canvas.specs.Layers.{textLayer, drawingBy, drawingOf, sheetBy, sheetOf}
 use Rattle.canvas.specs.Drawn.{Shown}
 
@@ -66,7 +67,7 @@ module _ (rs : List (List ℕ)) (h w end : ℕ) (e : scannedIn (Canvas h w end) 
 
     pub body-in : (o : Outline) → ok o ≡ outlineOf (canvas w h t) w h → BodyIn w h (o .body)
     body-in o g =
-        let b = outline-inside (canvas w h t) w h o (sym g) .body in
+        let b = outline-inside frameOf (canvas w h t) w h o (sym g) .body in
         record { wide = omega (arith, b .left, b .right); within = b .columns; tall = omega (arith, b .top, b .bottom); inside = b .rows }
 
     -- the four layers

@@ -9,7 +9,7 @@ use lib.Dec.{ltb}
 use lib.ListN.{length, getD, take, drop, length-take}
 use Rattle.lists.specs.Answer.{ok, refused, _>>=_}
 use Rattle.lists.specs.Picture.{Picture, canvas}
-use Rattle.lists.proofs.AnswerLaws.{refused-ok, then-ok}
+use Rattle.lists.proofs.AnswerLaws.{then-ok}
 use Rattle.lists.proofs.Parts.{part-part}
 use Rattle.lists.proofs.RunLaws.{build-same, length-run}
 use Rattle.lists.proofs.Tests.{by-flag, true-false}
@@ -24,39 +24,24 @@ use Rattle.frames.specs.Body.{bodyOf}
 use Rattle.outline.specs.Outline.{searchOf, namedBy, namedOf, tableOf, outlineBy, outlineOf}
 use Rattle.outline.specs.declared.Outline.{Outline}
 use Rattle.regions.specs.Rects.{Layer}
-use Rattle.scan.specs.Canvas.{rowsAt, fits, sizeOf}
+use Rattle.scan.specs.Canvas.{rowsAt}
 use Rattle.scan.specs.Rows.{widest}
 use Rattle.scan.proofs.Answers.{fits-size}
 use Rattle.texts.specs.RegionText.{textOf}
 use Rattle.texts.proofs.TextsLaws.{texts-are}
-use Rattle.utf8.specs.Utf8.{checked}
-use Rattle.utf8.specs.declared.Checked.{Checked}
-use Rattle.utf8.specs.declared.Checked.the-variants.{Valid, Invalid}
 use Rattle.walks.specs.Frame.{frameOf}
 use Rattle.walks.specs.Kinds as kind
 use Rattle.canvas.specs.Drawn.{Shown}
 use Rattle.canvas.specs.DrawnPlane.{textPlaneOf, PlaneRoom}
-use Rattle.canvas.specs.Layers.{textLayer, drawingBy, drawingOf, sheetBy, sheetOf}
+use Rattle.canvas.specs.Layers.{textLayer, drawingOf, sheetOf}
 use Rattle.canvas.proofs.NameIsFirstRegion.{name-is-first-region}
 use Rattle.recognizer.specs.StatedPolicy.{statedPolicy}
 use Rattle.tables.specs.NamedTable.{nameOf, NameIn}
 use Rattle.policies.specs.DrawnPolicy.{drawnPlaneBy, nameBy, policyBy, walkedPolicy}
 use Rattle.policies.specs.LentPolicy.{textIn}
 use Rattle.policies.proofs.DrawnWithin.{read, gathered}
+use Rattle.policies.proofs.SheetDrawn.{drawn-fits, drawn-outline, sheet-drawn}
 use Rattle.drawn_planes.specs.DrawnTable.{NamedPlane, namedPlane, namedPolicy}
-
--- a sheet that is drawn fits the canvas
-drawn-fits : (rs : List (List ℕ)) (o : Outline) → drawingOf rs ≡ ok o → fits rs ≡ true
-unfolding drawingBy sizeOf
-drawn-fits rs o e = by-flag (fits rs) (λ t. t) (λ t. refused-ok (rw t at e))
-
-sheet-drawn : (s : List ℕ) (o : Outline) → sheetOf s ≡ ok o → drawingOf (rowsAt s 0) ≡ ok o
-unfolding sheetBy
-sheet-drawn s o e = go (checked s) refl
-  where
-    go : (k : Checked) → checked s ≡ k → drawingOf (rowsAt s 0) ≡ ok o
-    go Valid f = rw f at e
-    go (Invalid at) f = refused-ok (rw f at e)
 
 ok-same : {A : Type 0} {a b : A} → _≡_ {A = Reading A} (ok a) (ok b) → a ≡ b
 ok-same e = cc
@@ -88,10 +73,9 @@ record NameFirst (rs : List (List ℕ)) (t : TextPlane) : Type 0 where
   texts : t .texts ≡ textOf (textLayer rs) frame ∷ others
 
 name-first : (rs : List (List ℕ)) (o : Outline) (t : TextPlane) → drawingOf rs ≡ ok o → o .named ≡ true → drawnPlaneBy frameOf rs o ≡ ok t → NameFirst rs t
-unfolding drawingBy sizeOf
 name-first rs o t e n f =
     let p = textLayer rs in
-    let g = outline-frame p (widest rs) (length rs) o (rw (drawn-fits rs o e) at e) n in
+    let g = outline-frame p (widest rs) (length rs) o (drawn-outline frameOf rs o e) n in
     let q = read rs o t f in
     let a = gathered rs o t f in
     let r = name-is-first-region p (widest rs) (length rs) (g .0) (g .1) (q .0 .rects) (a .0) in
@@ -134,7 +118,7 @@ front-texts bytes ss count h =
 module _ (s : List ℕ) (o : Outline) (e : ok o ≡ sheetOf s) {h w : ℕ} {t m b g : List ℕ} (l : Shown (rowsAt s 0) h w (o .body) t m b g) where
   size-in : (w ≤ 160) × (h ≤ 96) × (h * w ≤ canvasSize)
   size-in =
-      let f = fits-size (rowsAt s 0) (drawn-fits (rowsAt s 0) o (sheet-drawn s o (sym e))) in
+      let f = fits-size (rowsAt s 0) (drawn-fits frameOf (rowsAt s 0) o (sheet-drawn frameOf s o (sym e))) in
       (rw (l .columns) (f .0), rw (l .rows) (f .1), rw (l .rows, l .columns) (f .2))
 
   layer-in : (x : List ℕ) → canvasSize ≤ length x → Layer w h (length x)
@@ -166,7 +150,7 @@ module _ (s : List ℕ) (o : Outline) (e : ok o ≡ sheetOf s) {h w : ℕ} {t m 
     name-in =
         record {
           first = λ c.
-              let x = some-text (rowsAt s 0) o (record { plane = planeIn d n; texts = textsIn bytes ss count }) (sheet-drawn s o (sym e)) c (sym (q ∙ as-drawn)) in
+              let x = some-text (rowsAt s 0) o (record { plane = planeIn d n; texts = textsIn bytes ss count }) (sheet-drawn frameOf s o (sym e)) c (sym (q ∙ as-drawn)) in
               omega (arith, length-run (textAt bytes ss) 0 count);
           few = omega (arith, length-take textBytes bytes);
           twoEach = k .twoEach;
@@ -185,7 +169,7 @@ first-region s = go (sheetOf s) refl
     planed : (o : Outline) → sheetOf s ≡ ok o → (m : Reading TextPlane) → drawnPlaneBy frameOf (rowsAt s 0) o ≡ m
         → _>>=_ m (λ t. _>>=_ (nameBy frameOf (rowsAt s 0) (o .named)) (λ name. statedPolicy name (textIn t) (t .plane)))
         ≡ _>>=_ (_>>=_ {B = NamedPlane} m (λ t. ok (record { named = o .named; read = t }))) (λ p. statedPolicy (nameOf (p .named) (textIn (p .read))) (textIn (p .read)) (p .read .plane))
-    planed o e (ok t) f = rw (name-read (rowsAt s 0) o t (sheet-drawn s o e) f)
+    planed o e (ok t) f = rw (name-read (rowsAt s 0) o t (sheet-drawn frameOf s o e) f)
     planed o e (refused r) f = refl
 
     go : (m : Reading Outline) → sheetOf s ≡ m

@@ -6,4 +6,5 @@ pub mod ThinLaws
 pub mod BodyLaws
 pub mod CarryLaws
 pub mod GridLaws
+pub mod TopSideLaws
 pub mod Examples

@@ -10,12 +10,13 @@ use Rattle.lists.proofs.PlaceLaws.{column-in, row-in}
 use Rattle.model.specs.Box.{┌, ╥, ╬}
 use Rattle.model.specs.Refusals.{Reading}
 use Rattle.model.specs.declared.Rect.{Rect}
+use Rattle.walks.specs.Frame.{FrameFinder}
 use Rattle.walks.proofs.WalkLaws.{found-bound}
 use Rattle.walks.specs.declared.Direction.the-variants.{Right, Down, Left, Up}
 use Rattle.frames.specs.Body.{bodyOf}
 use Rattle.along.specs.Characters.{alongOf}
 use Rattle.along.specs.declared.Lines.the-variants.{Body}
-use Rattle.outline.specs.Outline.{searchOf, namedOf, tableOf, outlineBy, outlineOf}
+use Rattle.outline.specs.Outline.{searchOf, namedBy, tableOf, outlineBy}
 use Rattle.outline.specs.declared.Outline.{Outline}
 use Rattle.outline.proofs.OutlineLaws.{search-in}
 
@@ -65,11 +66,15 @@ table-inside p w h n k o l e =
     let s = b .2 in
     subst (InsideAnswer w h) s (record { column = x; row = y; body = a })
 
-pub outline-inside : (p : Picture) (w h : ℕ) (o : Outline) → outlineOf p w h ≡ ok o → Inside w h o
+-- the outline is a table's, whose main crossing stands at a place of the canvas
+pub outline-table : (find : FrameFinder) (p : Picture) (w h : ℕ) (o : Outline) → outlineBy find p w h ≡ ok o → (n : Bool) × (k : ℕ) × (k < h * w) × (tableOf p w h n k ≡ ok o)
 unfolding outlineBy
-outline-inside p w h o e =
+outline-table find p w h o e =
     let c = then-ok (searchOf ┌ p w h) _ o e in
     let i = then-ok (searchOf ╥ p w h) _ o (c .2) in
-    let n = then-ok (namedOf p w h (i .0 / w)) _ o (i .2) in
+    let n = then-ok (namedBy find p w h (i .0 / w)) _ o (i .2) in
     let k = then-ok (searchOf ╬ p w h) _ o (n .2) in
-    table-inside p w h (n .0) (k .0) o (search-in ╬ p w h (k .0) (k .1)) (k .2)
+    (n .0, k .0, search-in ╬ p w h (k .0) (k .1), k .2)
+
+pub outline-inside : (find : FrameFinder) (p : Picture) (w h : ℕ) (o : Outline) → outlineBy find p w h ≡ ok o → Inside w h o
+outline-inside find p w h o e = let t = outline-table find p w h o e in table-inside p w h (t .0) (t .1) o (t .2) (t .3)

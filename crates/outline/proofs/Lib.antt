@@ -1,4 +1,5 @@
 -- Laws of the outline.
 pub mod OutlineLaws
 pub mod InsideLaws
+pub mod EdgeLaws
 pub mod Examples

@@ -27,14 +27,14 @@ use Rattle.outline.specs.declared.Outline.{Outline}
 use Rattle.regions.specs.Regions.{Finder, regionsOf}
 use Rattle.lookup.specs.Lookup.{regionOf}
 use Rattle.scan.specs.Rows.{widest}
-use Rattle.step.specs.PlaneStep.{Row, Rows, isAt, outputLine, annotationLine, addLine, cornersIn, fitting, withCell, addCell, rowBy, addRow, addFrames, addGridRow, noRows, rowsBy, planeBy, planeOf}
+use Rattle.step.specs.PlaneStep.{Row, Rows, isAt, outputLine, annotationLine, addLine, cornersIn, fitting, withCell, addCell, rowBy, addRow, addFrames, addGridRow, noRows, rowsBy, planeBy}
 use Rattle.texts.specs.RegionText.{textOf, packed, textsOf}
 use Rattle.texts.proofs.TextsLaws.{texts-are, texts-fit}
-use Rattle.walks.specs.Frame.{frameOf}
+use Rattle.walks.specs.Frame.{FrameFinder, frameOf}
 use Rattle.walks.specs.Kinds as kind
 use Rattle.canvas.specs.DrawnPlane.{textPlaneBy}
 use Rattle.canvas.specs.Layers.{textLayer, thinLayer, gridLayer}
-use Rattle.canvas.specs.RegionTexts.{Regions, regionTextsBy, regionTextsOf}
+use Rattle.canvas.specs.RegionTexts.{Regions, regionTextsBy}
 use Rattle.canvas.proofs.NameIsFirstRegion.{name-is-first-region}
 use Rattle.policies.specs.DrawnPolicy.{drawnPlaneBy, nameBy}
 use Rattle.policies.proofs.SpelledShort.{Short}
@@ -130,6 +130,22 @@ packed-one [] k = omega arith
 packed-one (t ∷ ts) zero = omega (arith, length-append t (packed ts))
 packed-one (t ∷ ts) (suc k) = omega (arith, length-append t (packed ts), packed-one ts k)
 
+-- the regions with their texts, and the plane, that were read
+abbrev pub DrawnRead : FrameFinder → List (List ℕ) → Outline → TextPlane → Type 0
+DrawnRead find rs o t =
+    let grid = gridLayer rs (o .body) in
+    (g : Regions) × (regionTextsBy find (textLayer rs) (thinLayer rs) (widest rs) (length rs) ≡ ok g)
+    × (planeBy (find kind.grid grid (widest rs) (length rs)) o (g .rects) grid (widest rs) (length rs) ≡ ok (t .plane)) × (g .texts ≡ t .texts)
+
+pub read-by : (find : FrameFinder) (rs : List (List ℕ)) (o : Outline) (t : TextPlane) → drawnPlaneBy find rs o ≡ ok t → DrawnRead find rs o t
+unfolding textPlaneBy
+read-by find rs o t e =
+    let grid = gridLayer rs (o .body) in
+    let g = then-ok (regionTextsBy find (textLayer rs) (thinLayer rs) (widest rs) (length rs)) _ t e in
+    let P = then-ok (planeBy (find kind.grid grid (widest rs) (length rs)) o (g .0 .rects) grid (widest rs) (length rs)) _ t (g .2) in
+    let z : record { plane = P .0; texts = g .0 .texts } ≡ t = let q = P .2 in cc in
+    (g .0, g .1, P .1 ∙ ap (λ (x : TextPlane). ok (x .plane)) z, ap (λ (x : TextPlane). x .texts) z)
+
 module _ (rs : List (List ℕ)) (o : Outline) (t : TextPlane) (e : drawnPlaneBy frameOf rs o ≡ ok t) where
   abbrev w : ℕ
   w = widest rs
@@ -137,14 +153,8 @@ module _ (rs : List (List ℕ)) (o : Outline) (t : TextPlane) (e : drawnPlaneBy 
   abbrev h : ℕ
   h = length rs
 
-  -- the regions with their texts, and the plane, that were read
-  pub read : (g : Regions) × (regionTextsOf (textLayer rs) (thinLayer rs) w h ≡ ok g) × (planeOf o (g .rects) (gridLayer rs (o .body)) w h ≡ ok (t .plane)) × (g .texts ≡ t .texts)
-  unfolding textPlaneBy
-  read =
-      let g = then-ok (regionTextsOf (textLayer rs) (thinLayer rs) w h) _ t e in
-      let P = then-ok (planeOf o (g .0 .rects) (gridLayer rs (o .body)) w h) _ t (g .2) in
-      let z : record { plane = P .0; texts = g .0 .texts } ≡ t = let q = P .2 in cc in
-      (g .0, g .1, P .1 ∙ ap (λ (x : TextPlane). ok (x .plane)) z, ap (λ (x : TextPlane). x .texts) z)
+  pub read : DrawnRead frameOf rs o t
+  read = read-by frameOf rs o t e
 
   pub gathered : (regionsOf (thinLayer rs) w h ≡ ok (read .0 .rects)) × (textsOf (textLayer rs) (read .0 .rects) ≡ ok (read .0 .texts))
   unfolding regionTextsBy

@@ -6,3 +6,5 @@ pub mod LineLaws
 pub mod FramesLaws
 pub mod RowsLaws
 pub mod WalkedIsDrawn
+pub mod PlaneHasRows
+pub mod RowsHaveCells

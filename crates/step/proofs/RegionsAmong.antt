@@ -62,7 +62,7 @@ module _ (o : Outline) (find : Finder) (regions : List Rect) where
   abbrev count : ℕ
   count = length regions
 
-  fitted : (n : ℕ) (s t : Row) → fitting n s ≡ ok t → s ≡ t
+  pub fitted : (n : ℕ) (s t : Row) → fitting n s ≡ ok t → s ≡ t
   fitted n s t e = go (leb planeRows n) (ltb planeCells (length (s .cells))) e
     where
       go : (a b : Bool) → choose a (refused OverLimit) (choose b (refused OverLimit) (ok s)) ≡ ok t → s ≡ t

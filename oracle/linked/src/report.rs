@@ -29,12 +29,12 @@ const NO_SPLIT: Reach = No("an answer of the split");
 const TWO_SIZES: Reach = No("clauses OnlyTwoSizes.only-two-sizes: checks 8 and 12 alone");
 const FIVE: Reach = No("builder Entries.lentSizes: five work slices");
 const NINE: Reach = No("builder Entries.sheetSizes: nine work slices");
-const HAS_ROW: Reach = Open(
-    "no law yet; on paper: the ╥ above the main crossing is ┬ in GRID, so that a frame starts there or the sheet is refused before",
-);
-const HAS_CELLS: Reach = Open(
-    "step PlaneStep.addRow gives no row without cells; that a row stands above the line row has no law yet (see 8)",
-);
+const HAS_ROW: Reach =
+    No("policies DrawnNotEmpty.walked-not-empty: the main crossing has a line row");
+const HAS_CORNERS: Reach =
+    No("policies DrawnNotEmpty.drawn-placement: each row of a drawing's plane has cells");
+const HAS_CELLS: Reach =
+    No("policies DrawnNotEmpty.drawn-numbers: each row of a drawing's plane has cells");
 const ONE_LINE: Reach = Open(
     "no law yet; on paper: a row sheet has both crossings in one row, so that check 8 fails first; of column sheets none was found",
 );
@@ -59,8 +59,8 @@ const ROWS: [Row; 63] = [
     ("7 cells", "over 64 cells in a plane row", [Yes, NOT_DRAWN, NOT_SPLIT]),
     ("8", "plane has no rows", [HAS_ROW, Yes, NOT_SPLIT]),
     ("9", "no main crossing", [Yes, Yes, NOT_SPLIT]),
-    ("10 P1", "panic: row 0 has no cells", [HAS_CELLS, Yes, NOT_SPLIT]),
-    ("10 P2", "panic: last row has no cells", [HAS_CELLS, Yes, NOT_SPLIT]),
+    ("10 P1", "panic: row 0 has no cells", [HAS_CORNERS, Yes, NOT_SPLIT]),
+    ("10 P2", "panic: last row has no cells", [HAS_CORNERS, Yes, NOT_SPLIT]),
     ("10 P3", "panic: no double line in column 0", [Yes, Yes, NOT_SPLIT]),
     ("10 P4", "panic: column 0 ends in the numbers", [HAS_CELLS, Yes, NOT_SPLIT]),
     ("10 P5", "panic: no double line in the last row", [Yes, Yes, NOT_SPLIT]),
