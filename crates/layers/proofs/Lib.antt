@@ -6,5 +6,4 @@ pub mod ThinLaws
 pub mod BodyLaws
 pub mod CarryLaws
 pub mod GridLaws
-pub mod TopSideLaws
 pub mod Examples

@@ -16,7 +16,7 @@ use Rattle.model.specs.declared.HitPolicyPlacement.{HitPolicyPlacement}
 use Rattle.model.specs.declared.HitPolicyPlacement.the-variants.{TopLeft, BottomLeft, NotPresent}
 use Rattle.cells.specs.Plane.{Plane}
 use Rattle.placement.specs.Placement.{first, last, policyIn, numberIn, cornerPolicy, bottomLeft, placementOf, counted}
-use Rattle.step.proofs.RowsHaveCells.{HasCells}
+use Rattle.policies.proofs.RowsHaveCells.{HasCells}
 use Rattle.policies.proofs.NeverLaws.{Never, never-if, never-some}
 
 -- what a reading answers

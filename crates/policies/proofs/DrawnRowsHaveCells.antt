@@ -15,7 +15,7 @@ use Rattle.lists.proofs.Tests.{true-false}
 use Rattle.model.specs.Box.{┬, ╥}
 use Rattle.cells.specs.Plane.{TextPlane}
 use Rattle.layers.specs.Thin.{thinOf}
-use Rattle.layers.proofs.TopSideLaws.{tee-in-grid}
+use Rattle.policies.proofs.TopSideLaws.{tee-in-grid}
 use Rattle.outline.specs.declared.Crossing.{Crossing}
 use Rattle.outline.specs.declared.Crossing.the-variants.{At, Nowhere}
 use Rattle.outline.specs.declared.Outline.{Outline}
@@ -25,8 +25,8 @@ use Rattle.regions.specs.Regions.{Finder, isCorner}
 use Rattle.scan.specs.Canvas.{rowsAt}
 use Rattle.scan.specs.Rows.{widest, blank, flat}
 use Rattle.step.specs.PlaneStep.{isAt}
-use Rattle.step.proofs.PlaneHasRows.{plane-has-rows}
-use Rattle.step.proofs.RowsHaveCells.{HasCells, rows-have-cells}
+use Rattle.policies.proofs.PlaneHasRows.{plane-has-rows}
+use Rattle.policies.proofs.RowsHaveCells.{HasCells, rows-have-cells}
 use Rattle.walks.specs.Frame.{FrameFinder}
 use Rattle.walks.specs.Kinds as kind
 use Rattle.canvas.specs.Layers.{textLayer, thinLayer, gridLayer, sheetBy}

@@ -8,6 +8,9 @@ pub mod DrawnWithin
 pub mod StatedFits
 pub mod SheetDrawn
 pub mod NeverLaws
+pub mod PlaneHasRows
+pub mod RowsHaveCells
+pub mod TopSideLaws
 pub mod CornersStand
 pub mod DrawnRowsHaveCells
 pub mod NeverEmptyDrawing

@@ -6,5 +6,3 @@ pub mod LineLaws
 pub mod FramesLaws
 pub mod RowsLaws
 pub mod WalkedIsDrawn
-pub mod PlaneHasRows
-pub mod RowsHaveCells
