@@ -1,9 +1,9 @@
 -- `scan::write_rows` meets its contract.
 use mathlib.Core.Path.{_≡_, refl, _∙_}
 use mathlib.Core.List.{List, _∷_}
-use Prim.Native.Nat.{ℕ, _+_, _-_, _*_, _≤_}
+use Prim.Native.Nat.{ℕ, _+_, _-_}
 use native.Mathlib.Omega.{arith}
-use lib.ListN.{length, drop}
+use lib.ListN.{drop}
 use borrow.Author.Needs.{needs}
 use Rattle.lists.proofs.RunLaws.{length-run, drop-build, drop-build-end}
 use Rattle.scan.specs.Found.{rowIn, rowsIn}
