@@ -14,8 +14,8 @@ use Rattle.lists.proofs.Tests.{by-flag, both}
 use Rattle.model.specs.Limits.{canvasRows, canvasColumns, canvasSize}
 use Rattle.model.specs.declared.Refusal.the-variants.{CanvasTooLarge}
 use Rattle.scan.specs.Canvas.{Size, fits, sizeOf, textIn, blanksIn, rowsAt, scannedIn, Ended}
-use Rattle.scan.specs.Found.{textsAt, StartAt, Measured}
-use Rattle.scan.specs.Rows.{upTo, widest, blank, flat}
+use Rattle.scan.specs.Found.{StartAt, Measured, rowsIn, Counted, Kept}
+use Rattle.scan.specs.Rows.{widest, blank, flat}
 use Rattle.scan.specs.declared.Scanned.{Scanned}
 use Rattle.scan.specs.declared.Scanned.the-variants.{Canvas, NotScanned}
 
@@ -60,27 +60,27 @@ module _ {s : List ℕ} {from at rows columns end : ℕ} (i : StartAt s from at)
     pub scan-columns : canvasColumns < columns → Answered s from d b (NotScanned (CanvasTooLarge rows columns)) d b
     scan-columns h = large (rw (← width, lt-leb columns canvasColumns h) (and-false (leb (length (rowsAt s from)) canvasRows)))
 
-    module _ (h : rows ≤ canvasRows) (k : columns ≤ canvasColumns) where
-      pub scan-room : canvasSize ≤ length d → canvasSize ≤ length b
-          → (at ≤ length s) × (widest (upTo (textsAt s at)) ≤ columns) × (length (upTo (textsAt s at)) * columns ≤ length d) × (length (upTo (textsAt s at)) * columns ≤ length b)
-      scan-room n o =
-          let q : rows * columns ≤ canvasRows * canvasColumns = mul-le-mul h k in
-          let r : length (upTo (textsAt s at)) * columns ≤ canvasSize = rw (← m .height) q in
-          (i .inside, omega (arith, m .width), omega arith, omega arith)
+    module _ (h : rows ≤ canvasRows) (k : columns ≤ canvasColumns) {lines : List ℕ} (q : Kept s at lines rows) where
+      pub scan-room : 2 * canvasRows ≤ length lines → canvasSize ≤ length d → canvasSize ≤ length b
+          → Counted s lines rows × (2 * rows ≤ length lines) × (widest (rowsIn s lines rows) ≤ columns) × (rows * columns ≤ length d) × (rows * columns ≤ length b)
+      scan-room l n o =
+          let r : rows * columns ≤ canvasSize = mul-le-mul h k in
+          (q .counted, omega arith, omega (arith, m .width, ap widest (q .same)), omega arith, omega arith)
 
       fitting : fits (rowsAt s from) ≡ true
       fitting = rw (← height, ← width, le-leb rows canvasRows h, le-leb columns canvasColumns k)
 
-      pub scan-canvas : {o p : List ℕ} → (o ≡ put d 0 (flat columns (upTo (textsAt s at)))) × (p ≡ put b 0 (flat columns (map blank (upTo (textsAt s at)))))
+      pub scan-canvas : {o p : List ℕ} → (o ≡ put d 0 (flat columns (rowsIn s lines rows))) × (p ≡ put b 0 (flat columns (map blank (rowsIn s lines rows))))
           → Answered s from d b (Canvas rows columns end) o p
       unfolding sizeOf textIn blanksIn
-      scan-canvas w = (
-        rw (fitting, ← height, ← width),
-        (
-          (m .inside, m .rest ∙ sym (i .rest)),
-          (
-            w .0 ∙ rw (fitting, ← width, i .same),
-            w .1 ∙ rw (fitting, ← width, i .same),
-          ),
-        ),
-      )
+      scan-canvas w =
+          let e : rowsIn s lines rows ≡ rowsAt s from = q .same ∙ sym (i .same) in (
+            rw (fitting, ← height, ← width),
+            (
+              (m .inside, m .rest ∙ sym (i .rest)),
+              (
+                w .0 ∙ rw (fitting, ← width, e),
+                w .1 ∙ rw (fitting, ← width, e),
+              ),
+            ),
+          )

@@ -2,6 +2,7 @@
 pub mod RowsLaws
 pub mod SheetLaws
 pub mod Measuring
+pub mod Keeping
 pub mod RowPutting
 pub mod Writing
 pub mod TextLayer

@@ -1,139 +1,94 @@
--- The rows of a sheet that are being written into a layer.
+-- Rows that are being written into a layer.
 use mathlib.Core.Path.{_≡_, refl, sym, ap, _∙_}
 use mathlib.Core.List.{List, [], _∷_, _++_, map, map-id}
-use Prim.Native.Nat.{ℕ, _+_, _*_, _≤_, _<_, max}
+use Prim.Native.Nat.{ℕ, _+_, _*_, _≤_, max}
+use native.Mathlib.Nat.{add-mul}
 use native.Mathlib.Omega.{arith}
-use lib.Dec.{eqb}
 use lib.ListN.{length, take, drop, length-take}
-use borrow.Author.Tests.{eqb-true, eqb-false}
 use Rattle.lists.specs.Put.{put}
 use Rattle.lists.proofs.Parts.{take-next, drop-next, room-next, take-done}
 use Rattle.lists.proofs.PutLaws.{put-nil, put-next}
-use Rattle.lists.proofs.Tests.{by-flag}
-use Rattle.model.specs.Box.{┘}
-use Rattle.unicode.specs.Lines.{codesAt, LineAt}
-use Rattle.scan.specs.Found.{textsAt}
-use Rattle.scan.specs.Rows.{upTo, widest, fill, flat}
-use Rattle.scan.proofs.RowsLaws.{line-counted, rows-none, rows-last, rows-more, rows-end}
+use Rattle.scan.specs.Rows.{widest, fill, flat}
 use Rattle.scan.proofs.TextLayer.{fill-length, map-length}
 
--- the layer of the rows from a place on, g of each, filled to a width
-abbrev layerAt : (List ℕ → List ℕ) → List ℕ → ℕ → ℕ → List ℕ
-layerAt g s at width = flat width (map g (upTo (textsAt s at)))
+-- the layer of some rows, g of each, filled to a width
+abbrev layerOf : (List ℕ → List ℕ) → List (List ℕ) → ℕ → List ℕ
+layerOf g rs width = flat width (map g rs)
 
--- the rows up to p are written, which are base elements; g keeps a row's length
-pub record Writing (g : List ℕ → List ℕ) (s : List ℕ) (at width : ℕ) (d out : List ℕ) (p base : ℕ) : Type 0 where
+-- the first n rows are written; g keeps a row's length
+pub record Writing (g : List ℕ → List ℕ) (rs : List (List ℕ)) (width : ℕ) (d out : List ℕ) (n : ℕ) : Type 0 where
   pub same : (r : List ℕ) → length (g r) ≡ length r
-  pub room : length (layerAt g s at width) ≤ length d
-  pub inside : p ≤ length s
-  pub within : base ≤ length (layerAt g s at width)
-  pub left : drop base (layerAt g s at width) ≡ layerAt g s p width
-  pub narrow : widest (upTo (textsAt s p)) ≤ width
-  pub done : out ≡ put d 0 (take base (layerAt g s at width))
+  pub room : length (layerOf g rs width) ≤ length d
+  pub within : n * width ≤ length (layerOf g rs width)
+  pub left : drop (n * width) (layerOf g rs width) ≡ layerOf g (drop n rs) width
+  pub narrow : widest (drop n rs) ≤ width
+  pub done : out ≡ put d 0 (take (n * width) (layerOf g rs width))
   pub long : length out ≡ length d
 
-pub writing-start : (g : List ℕ → List ℕ) → ((r : List ℕ) → length (g r) ≡ length r) → (s : List ℕ) (at width : ℕ) (d : List ℕ) → at ≤ length s
-    → widest (upTo (textsAt s at)) ≤ width → length (upTo (textsAt s at)) * width ≤ length d → Writing g s at width d d at 0
-writing-start g same s at width d h w r =
+pub writing-start : (g : List ℕ → List ℕ) → ((r : List ℕ) → length (g r) ≡ length r) → (rs : List (List ℕ)) (width : ℕ) (d : List ℕ)
+    → widest rs ≤ width → length rs * width ≤ length d → Writing g rs width d d 0
+writing-start g same rs width d w r =
+    let z : 0 * width ≡ 0 = omega arith in
     record {
       same = same;
-      room = omega (arith, map-length g same width (upTo (textsAt s at)) w);
-      inside = h;
+      room = omega (arith, map-length g same width rs w);
       within = omega arith;
-      left = refl;
+      left = ap (λ (k : ℕ). drop k (layerOf g rs width)) z;
       narrow = w;
-      done = sym (put-nil d 0);
+      done = sym (put-nil d 0) ∙ ap (λ (k : ℕ). put d 0 (take k (layerOf g rs width))) (sym z);
       long = refl;
     }
 
 -- where g leaves each row as it is, the layer is that of the rows
-pub text-layer : {s : List ℕ} {at width : ℕ} {d out : List ℕ} {p base : ℕ} → Writing (λ r. r) s at width d out p base
-    → put d 0 (layerAt (λ r. r) s at width) ≡ put d 0 (flat width (upTo (textsAt s at)))
-text-layer {s} {at} i = rw (map-id (upTo (textsAt s at)))
+pub text-layer : (rs : List (List ℕ)) (width : ℕ) (d : List ℕ) → put d 0 (layerOf (λ r. r) rs width) ≡ put d 0 (flat width rs)
+text-layer rs width d = rw (map-id rs)
 
--- a row t that is written at base, and the rows r behind it
-record Row (g : List ℕ → List ℕ) (s : List ℕ) (at width : ℕ) (d out : List ℕ) (base : ℕ) (t : List ℕ) (r : List (List ℕ)) : Type 0 where
-  short : length t ≤ width
-  narrow : widest r ≤ width
-  within : base + width ≤ length (layerAt g s at width)
-  left : drop (base + width) (layerAt g s at width) ≡ flat width (map g r)
-  done : put out base (fill width (g t)) ≡ put d 0 (take (base + width) (layerAt g s at width))
-
-module _ {g : List ℕ → List ℕ} {s : List ℕ} {at width : ℕ} {d out : List ℕ} {p base : ℕ} (i : Writing g s at width d out p base) where
-  row : (t : List ℕ) (r : List (List ℕ)) → upTo (textsAt s p) ≡ t ∷ r → Row g s at width d out base t r
-  unfolding flat widest
-  row t r e =
-      let F : List ℕ = layerAt g s at width in
-      let u : List ℕ = fill width (g t) in
-      let v : List ℕ = flat width (map g r) in
-      let n : max (length t) (widest r) ≤ width = let m = i .narrow in rw e at m in
-      let f = fill-length width (g t) (omega (arith, i .same t)) in
-      let h : drop base F ≡ u ++ v = i .left ∙ rw e in
-      let b = i .within in
-      let o = i .room in
-      let l = length-take base F in
-      let y = drop-next F base u v h in
-      let k = take-next F base u v h in
-      record {
-        short = omega arith;
-        narrow = omega arith;
-        within = omega (arith, room-next F base u v h b);
-        left = rw f at y;
-        done =
-            ap (λ (o : List ℕ). put o base u) (i .done) ∙ put-next d 0 (take base F) u base (omega arith) (omega arith)
-            ∙ ap (put d 0) (sym k) ∙ ap (λ (m : ℕ). put d 0 (take (base + m) F)) f;
-      }
-
-  pub writing-end : length s ≤ p → out ≡ put d 0 (layerAt g s at width)
+module _ {g : List ℕ → List ℕ} {rs : List (List ℕ)} {width : ℕ} {d out : List ℕ} {n : ℕ} (i : Writing g rs width d out n) where
+  pub writing-end : drop n rs ≡ [] → out ≡ put d 0 (layerOf g rs width)
   unfolding flat
-  writing-end h = i .done ∙ ap (put d 0) (take-done _ base (i .left ∙ rw (rows-end s p h)))
+  writing-end e = i .done ∙ ap (put d 0) (take-done _ (n * width) (i .left ∙ rw e))
 
-  module _ {from count last next : ℕ} (l : LineAt s p from count last next) where
-    pub writing-none : count ≤ 0 → Writing g s at width d out next base
-    writing-none z =
-        record {
-          same = i .same;
-          room = i .room;
-          inside = l .inside;
-          within = i .within;
-          left = i .left ∙ rw (rows-none l z);
-          narrow = let n = i .narrow in rw (rows-none l z) at n;
-          done = i .done;
-          long = i .long;
-        }
+  -- row n is t
+  module _ {t : List ℕ} (e : drop n rs ≡ t ∷ drop (n + 1) rs) where
+    narrow-both : max (length t) (widest (drop (n + 1) rs)) ≤ width
+    unfolding widest
+    narrow-both = let m = i .narrow in rw e at m
 
-    module _ (z : 0 < count) where
-      fits : (r : List (List ℕ)) → upTo (textsAt s p) ≡ codesAt s from count ∷ r → (count ≤ width) × (base + width ≤ length out)
-      fits r e =
-          let q = row (codesAt s from count) r e in
-          let a = q .short in
-          let b = q .within in
-          (omega (arith, line-counted l), omega (arith, i .room, i .long))
+    filled : length (fill width (g t)) ≡ width
+    filled = fill-length width (g t) (omega (arith, narrow-both, i .same t))
 
-      -- a row has room, whether or not it is the last
-      pub writing-room : (count ≤ width) × (base + width ≤ length out)
-      writing-room =
-          by-flag (eqb last ┘)
-          (λ e. fits _ (rows-last l z (eqb-true last ┘ e)))
-          (λ e. fits _ (rows-more l z (eqb-false last ┘ e)))
+    split : drop (n * width) (layerOf g rs width) ≡ fill width (g t) ++ layerOf g (drop (n + 1) rs) width
+    unfolding flat
+    split = i .left ∙ rw e
 
-      module _ {o : List ℕ} (wrote : o ≡ put out base (fill width (g (codesAt s from count)))) (kept : length o ≡ length out) where
-        pub writing-more : (last ≡ ┘ → ⊥) → Writing g s at width d o next (base + width)
-        writing-more n =
-            let q = row (codesAt s from count) _ (rows-more l z n) in
-            record {
-              same = i .same;
-              room = i .room;
-              inside = l .inside;
-              within = q .within;
-              left = q .left;
-              narrow = q .narrow;
-              done = wrote ∙ q .done;
-              long = kept ∙ i .long;
-            }
+    next : n * width + length (fill width (g t)) ≡ (n + 1) * width
+    next = omega (arith, filled, add-mul n 1 width)
 
-        pub writing-last : last ≡ ┘ → o ≡ put d 0 (layerAt g s at width)
-        unfolding flat
-        writing-last e =
-            let q = row (codesAt s from count) [] (rows-last l z e) in
-            wrote ∙ q .done ∙ ap (put d 0) (take-done _ (base + width) (q .left))
+    next-within : (n + 1) * width ≤ length (layerOf g rs width)
+    next-within = omega (arith, next, room-next (layerOf g rs width) (n * width) (fill width (g t)) _ split (i .within))
+
+    pub writing-room : (length t ≤ width) × (n * width + width ≤ length out)
+    writing-room = (omega (arith, narrow-both), omega (arith, next, filled, next-within, i .room, i .long))
+
+    module _ {o : List ℕ} (wrote : o ≡ put out (n * width) (fill width (g t))) (kept : length o ≡ length out) where
+      next-done : o ≡ put d 0 (take ((n + 1) * width) (layerOf g rs width))
+      next-done =
+          let F : List ℕ = layerOf g rs width in
+          let u : List ℕ = fill width (g t) in
+          let b = i .within in
+          let r = i .room in
+          let l = length-take (n * width) F in
+          wrote ∙ ap (λ (x : List ℕ). put x (n * width) u) (i .done) ∙ put-next d 0 (take (n * width) F) u (n * width) (omega arith) (omega arith)
+          ∙ ap (put d 0) (sym (take-next F (n * width) u _ split)) ∙ ap (λ (k : ℕ). put d 0 (take k F)) next
+
+      pub writing-more : Writing g rs width d o (n + 1)
+      writing-more =
+          record {
+            same = i .same;
+            room = i .room;
+            within = next-within;
+            left = ap (λ (k : ℕ). drop k (layerOf g rs width)) (sym next) ∙ drop-next (layerOf g rs width) (n * width) (fill width (g t)) _ split;
+            narrow = omega (arith, narrow-both);
+            done = next-done;
+            long = kept ∙ i .long;
+          }

@@ -1,9 +1,10 @@
 -- What the inner functions of the crate answer on the way: no caller needs these.
 use mathlib.Core.List.{List}
 use mathlib.Core.Path.{_≡_}
-use Prim.Native.Nat.{ℕ, _≤_}
-use lib.ListN.{length, drop}
-use Rattle.unicode.specs.Lines.{lines, texts}
+use Prim.Native.Nat.{ℕ, _+_, _*_, _≤_, _<_}
+use lib.ListN.{length, getD, drop}
+use Rattle.lists.specs.Run.{build}
+use Rattle.unicode.specs.Lines.{lines, texts, codesAt}
 use Rattle.utf8.specs.Utf8.{codes}
 use Rattle.scan.specs.Canvas.{rowsAt}
 use Rattle.scan.specs.Rows.{upTo, widest}
@@ -29,3 +30,20 @@ pub record Measured (s : List ℕ) (at rows columns end : ℕ) : Type 0 where
   pub width : columns ≡ widest (upTo (textsAt s at))
   pub inside : end ≤ length s
   pub rest : codes (drop end s) ≡ restAt s at
+
+-- row r of the bytes, of which d tells where it starts and how many code points it has: two numbers a row
+abbrev pub rowIn : List ℕ → List ℕ → ℕ → List ℕ
+rowIn s d r = codesAt s (getD d (2 * r) 0) (getD d (2 * r + 1) 0)
+
+-- the first n of these rows
+abbrev pub rowsIn : List ℕ → List ℕ → ℕ → List (List ℕ)
+rowsIn s d n = build n (rowIn s d)
+
+-- each of them has as many code points as d tells
+abbrev pub Counted : List ℕ → List ℕ → ℕ → Type 0
+Counted s d n = (r : ℕ) → r < n → getD d (2 * r + 1) 0 ≡ length (rowIn s d r)
+
+-- they are the rows of the sheet that starts at a place
+pub record Kept (s : List ℕ) (at : ℕ) (d : List ℕ) (n : ℕ) : Type 0 where
+  pub same : rowsIn s d n ≡ upTo (textsAt s at)
+  pub counted : Counted s d n

@@ -5,14 +5,14 @@ use model::limits;
 use utf8::Decoded;
 ghost use mathlib.Core.Path.{_≡_};
 ghost use mathlib.Core.List.{map};
-ghost use Prim.Native.Nat.{_+_, _*_, _≤_, max};
-ghost use lib.ListN.{length, replicate};
+ghost use Prim.Native.Nat.{_+_, _*_, _≤_, _<_, max};
+ghost use lib.ListN.{length, set, replicate};
 ghost use Rattle.lists.specs.Put.{put};
-ghost use Rattle.model.specs.Limits.{canvasSize};
+ghost use Rattle.model.specs.Limits.{canvasRows, canvasSize};
 ghost use Rattle.unicode.specs.Lines.{codesAt};
-ghost use Rattle.scan.specs.Rows.{begins, upTo, widest, fill, blank, flat};
+ghost use Rattle.scan.specs.Rows.{begins, widest, fill, blank, flat};
 ghost use Rattle.scan.specs.Canvas.{sizeOf, textIn, blanksIn, rowsAt, scannedIn, Ended};
-ghost use Rattle.scan.specs.Found.{textsAt, StartAt, Measured};
+ghost use Rattle.scan.specs.Found.{StartAt, Measured, rowsIn, Counted, Kept};
 
 // Whether the text of `count` code points at a place begins with ┌.
 fn begins_sheet(s: &[u8], from: usize, count: usize) -> bool
@@ -52,6 +52,21 @@ fn larger(a: usize, b: usize) -> usize
     if a < b { b } else { a }
 }
 
+// Two numbers for each row of the largest canvas: where the row starts and how many code points it has.
+const LINE_NUMBERS: usize = 2 * limits::CANVAS_ROWS;
+
+// Keeps the two numbers of row n, if a canvas can have that row.
+fn keep_line(lines: &mut [usize], n: usize, from: usize, count: usize)
+    requires { ⌜ 2 * canvasRows ≤ length (now lines) ⌝ }
+    ensures { λ _. ⌜ (n < canvasRows → now (lines .exit) ≡ set (set (now (lines .entry)) (2 * n) from) (2 * n + 1) count) ⌝ }
+{
+    if limits::CANVAS_ROWS <= n {
+        return;
+    }
+    lines[2 * n] = from;
+    lines[2 * n + 1] = count;
+}
+
 // How many rows a sheet has, how many code points the longest, and where the text behind it starts.
 struct Extent {
     rows: usize,
@@ -59,10 +74,11 @@ struct Extent {
     end: usize,
 }
 
-// Measures the sheet whose first line starts at a place.
-fn measure(s: &[u8], at: usize) -> Extent
-    requires { ⌜ at ≤ length (now s) ⌝ }
-    ensures { λ r. ⌜ Measured (now (s .entry)) at (r .rows) (r .columns) (r .end) ⌝ }
+// Measures the sheet whose first line starts at a place, and keeps where its rows stand.
+fn measure(s: &[u8], at: usize, lines: &mut [usize]) -> Extent
+    requires { ⌜ (at ≤ length (now s)) × (2 * canvasRows ≤ length (now lines)) ⌝ }
+    ensures measured { λ r. ⌜ Measured (now (s .entry)) at (r .rows) (r .columns) (r .end) ⌝ }
+    ensures kept { λ r. ⌜ (r .rows ≤ canvasRows → Kept (now (s .entry)) at (now (lines .exit)) (r .rows)) ⌝ }
 {
     let mut p = at;
     let mut rows: usize = 0;
@@ -73,6 +89,7 @@ fn measure(s: &[u8], at: usize) -> Extent
         let last = l.last;
         p = l.next;
         if 0 < count {
+            keep_line(lines, rows, l.from, count);
             rows += 1;
             columns = larger(columns, count);
             if last == box_drawing::LIGHT_UP_AND_LEFT {
@@ -148,27 +165,25 @@ fn put_row(
     put_same(body, base + count, width - count, box_drawing::LIGHT_SHADE);
 }
 
-// The rows of the sheet whose first line starts at a place, into both layers, each filled to `width`.
-fn write_rows(s: &[u8], at: usize, width: usize, text: &mut [u32], body: &mut [u32])
-    requires { ⌜ (at ≤ length (now s)) × (widest (upTo (textsAt (now s) at)) ≤ width) × (length (upTo (textsAt (now s) at)) * width ≤ length (now text)) × (length (upTo (textsAt (now s) at)) * width ≤ length (now body)) ⌝ }
-    ensures text { λ _. ⌜ now (text .exit) ≡ put (now (text .entry)) 0 (flat width (upTo (textsAt (now (s .entry)) at))) ⌝ }
-    ensures body { λ _. ⌜ now (body .exit) ≡ put (now (body .entry)) 0 (flat width (map blank (upTo (textsAt (now (s .entry)) at)))) ⌝ }
+// The rows whose two numbers are kept, into both layers, each filled to `width`.
+fn write_rows(
+    s: &[u8],
+    lines: &[usize],
+    rows: usize,
+    width: usize,
+    text: &mut [u32],
+    body: &mut [u32],
+)
+    requires { ⌜ Counted (now s) (now lines) rows × (2 * rows ≤ length (now lines)) × (widest (rowsIn (now s) (now lines) rows) ≤ width) × (rows * width ≤ length (now text)) × (rows * width ≤ length (now body)) ⌝ }
+    ensures text { λ _. ⌜ now (text .exit) ≡ put (now (text .entry)) 0 (flat width (rowsIn (now (s .entry)) (now (lines .entry)) rows)) ⌝ }
+    ensures body { λ _. ⌜ now (body .exit) ≡ put (now (body .entry)) 0 (flat width (map blank (rowsIn (now (s .entry)) (now (lines .entry)) rows))) ⌝ }
 {
-    let mut p = at;
-    let mut base: usize = 0;
-    while p < s.len() {
-        let l = unicode::line_at(s, p);
-        let from = l.from;
-        let count = l.count;
-        let last = l.last;
-        p = l.next;
-        if 0 < count {
-            put_row(s, from, count, width, text, body, base);
-            if last == box_drawing::LIGHT_UP_AND_LEFT {
-                return;
-            }
-            base += width;
-        }
+    let mut r: usize = 0;
+    while r < rows {
+        let from = lines[2 * r];
+        let count = lines[2 * r + 1];
+        put_row(s, from, count, width, text, body, r * width);
+        r += 1;
     }
 }
 
@@ -187,7 +202,8 @@ pub fn scan(s: &[u8], from: usize, text: &mut [u32], body: &mut [u32]) -> Scanne
     ensures body { λ _. ⌜ now (body .exit) ≡ blanksIn (rowsAt (now (s .entry)) from) (now (body .entry)) ⌝ }
 {
     let at = sheet_start(s, from);
-    let m = measure(s, at);
+    let mut lines = [0usize; LINE_NUMBERS];
+    let m = measure(s, at, &mut lines);
     let rows = m.rows;
     let columns = m.columns;
     let end = m.end;
@@ -197,6 +213,6 @@ pub fn scan(s: &[u8], from: usize, text: &mut [u32], body: &mut [u32]) -> Scanne
     if limits::CANVAS_COLUMNS < columns {
         return Scanned::NotScanned(Refusal::CanvasTooLarge(rows, columns));
     }
-    write_rows(s, at, columns, text, body);
+    write_rows(s, &lines, rows, columns, text, body);
     Scanned::Canvas(rows, columns, end)
 }

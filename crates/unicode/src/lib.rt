@@ -28,22 +28,26 @@ fn listed(c: u32) -> bool
     }
 }
 
-// Whether a code point is White_Space. Above 0x205F only 0x3000 is, and between 0x20 and 0x85 none.
+// Whether a code point is White_Space. Between 0x20 and 0x85 none is, and above 0x205F only 0x3000.
 pub fn white_space(c: u32) -> bool
     ensures { λ r. ⌜ r ≡ white c ⌝ }
 {
-    if 0x205F < c {
-        if c == 0x3000 {
-            return true;
-        }
-        return false;
-    }
     if 0x20 < c {
         if c < 0x85 {
             return false;
         }
+        if 0x205F < c {
+            return c == 0x3000;
+        }
+        return listed(c);
     }
-    listed(c)
+    if c == 0x20 {
+        return true;
+    }
+    if c < 0x09 {
+        return false;
+    }
+    c <= 0x0D
 }
 
 // A part of a slice.
@@ -225,15 +229,16 @@ fn line_rest(s: &[u8], from: usize) -> Rest
         match d {
             Decoded::Char(c, n) => {
                 p += n;
-                if c == 10 {
-                    return Rest {
-                        count,
-                        last,
-                        next: p,
-                    };
-                }
                 k += 1;
-                if white_space(c) {} else {
+                if white_space(c) {
+                    if c == 10 {
+                        return Rest {
+                            count,
+                            last,
+                            next: p,
+                        };
+                    }
+                } else {
                     count = k;
                     last = c;
                 }

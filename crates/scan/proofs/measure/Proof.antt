@@ -4,20 +4,24 @@ use native.Mathlib.Omega.{arith}
 use lib.ListN.{length}
 use borrow.Author.Needs.{needs}
 use Rattle.scan.proofs.Measuring.{Measuring, measuring-start, measuring-none, measuring-more, measuring-last, measuring-end}
+use Rattle.scan.proofs.Keeping.{Keeping, keeping-start, keeping-none, keeping-more, keeping-last, keeping-end}
 use Rattle.scan.proofs.measure.Statement.{statement}
 use Rattle.scan.proofs.measure.Tie as tie
 
 abbrev Inv-loop : tie.InvT-loop
-Inv-loop s at p₀ rows₀ columns₀ p rows columns = Measuring s at p rows columns
+Inv-loop s at lines₀ p₀ rows₀ columns₀ lines p rows columns = Measuring s at p rows columns × Keeping s at p rows lines₀ lines
 
 abbrev μ-loop : tie.MeasureT-loop
-μ-loop s at p₀ rows₀ columns₀ p rows columns = length s - p
+μ-loop s at lines₀ p₀ rows₀ columns₀ lines p rows columns = length s - p
 
 loop-holds : tie.Need-loop-holds Inv-loop μ-loop
-loop-holds c = measuring-start _ _ (c .before .pre)
+loop-holds c = (measuring-start _ _ (c .before .before .pre .0), keeping-start _ _ _)
 
 line-at-requires : tie.Need-line-at-requires Inv-loop μ-loop
 line-at-requires c κs = search needs
+
+keep-line-requires : tie.Need-keep-line-requires Inv-loop μ-loop
+keep-line-requires c κs = search needs
 
 add-rows : tie.Need-add-rows Inv-loop μ-loop
 add-rows c = search needs
@@ -25,29 +29,57 @@ add-rows c = search needs
 larger-requires : tie.Need-larger-requires Inv-loop μ-loop
 larger-requires c κs = search needs
 
+-- the places of a turn whose line is a row
+abbrev row : tie.After-keep-line Inv-loop μ-loop → tie.Then1 Inv-loop μ-loop
+row k = k .before .before
+
+abbrev turn : tie.Then1 Inv-loop μ-loop → tie.At-loop Inv-loop μ-loop
+turn r = r .before .before .before
+
+same-length : tie.Need-same-length Inv-loop μ-loop
+same-length c = search needs
+
 returns : tie.Need-returns Inv-loop μ-loop
 returns c =
-    let line = c .before .before .before in
-    measuring-last (line .before .before .loop .inv) (line .line-at .ensures) (line .before .loop-test .taken) (c .before .larger .ensures) (c .before .before .if1 .taken) (c .if2 .taken)
+    let k = c .before .before .before .before in
+    let r = row k in
+    let t = turn r in
+    let l = r .before .line-at .ensures in (
+      measuring-last (t .loop .inv .0) l (r .before .before .loop-test .taken) (c .before .larger .ensures) (r .if1 .taken) (c .if2 .taken),
+      keeping-last (t .loop .inv .1) l (r .if1 .taken) (t .before .before .before .pre .1) (k .keep-line .ensures) (k .keep-line .kept .0) (c .if2 .taken),
+    )
 
 loop-less : tie.Need-loop-less Inv-loop μ-loop
 loop-less c =
-    let line = c .before .before .before in
-    omega (arith, line .line-at .ensures .further (line .before .loop-test .taken))
+    let r = row (c .before .before .before .before) in
+    omega (arith, r .before .line-at .ensures .further (r .before .before .loop-test .taken))
 
 loop-again : tie.Need-loop-again Inv-loop μ-loop
 loop-again c =
-    let line = c .before .before .before in
-    measuring-more (line .before .before .loop .inv) (line .line-at .ensures) (line .before .loop-test .taken) (c .before .larger .ensures) (c .before .before .if1 .taken) (c .if2 .left)
+    let k = c .before .before .before .before in
+    let r = row k in
+    let t = turn r in
+    let l = r .before .line-at .ensures in (
+      measuring-more (t .loop .inv .0) l (r .before .before .loop-test .taken) (c .before .larger .ensures) (r .if1 .taken) (c .if2 .left),
+      keeping-more (t .loop .inv .1) l (r .if1 .taken) (t .before .before .before .pre .1) (k .keep-line .ensures) (k .keep-line .kept .0) (c .if2 .left),
+    )
 
 loop-less-2 : tie.Need-loop-less-2 Inv-loop μ-loop
 loop-less-2 c = omega (arith, c .before .line-at .ensures .further (c .before .before .loop-test .taken))
 
 loop-again-2 : tie.Need-loop-again-2 Inv-loop μ-loop
-loop-again-2 c = measuring-none (c .before .before .before .loop .inv) (c .before .line-at .ensures) (c .before .before .loop-test .taken) (c .if1 .left)
+loop-again-2 c =
+    let i = c .before .before .before .loop .inv in
+    let l = c .before .line-at .ensures in
+    (measuring-none (i .0) l (c .before .before .loop-test .taken) (c .if1 .left), keeping-none (i .1) l (c .if1 .left))
+
+same-length-2 : tie.Need-same-length-2 Inv-loop μ-loop
+same-length-2 c = search needs
 
 returns-2 : tie.Need-returns-2 Inv-loop μ-loop
-returns-2 c = measuring-end (c .before .loop .inv) (c .loop-test .left)
+returns-2 c =
+    let i = c .before .loop .inv in
+    (measuring-end (i .0) (c .loop-test .left), keeping-end (i .1) (c .loop-test .left))
 
 pub measure-spec : {M : Type 1} → statement M
 measure-spec =
@@ -57,11 +89,14 @@ measure-spec =
     μ-loop
     loop-holds
     line-at-requires
+    keep-line-requires
     add-rows
     larger-requires
+    same-length
     returns
     loop-less
     loop-again
     loop-less-2
     loop-again-2
+    same-length-2
     returns-2)

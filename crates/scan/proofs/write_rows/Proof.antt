@@ -1,115 +1,106 @@
 -- `scan::write_rows` meets its contract.
-use mathlib.Core.Path.{refl, _∙_}
-use Prim.Native.Nat.{ℕ, _+_, _-_, _≤_}
+use mathlib.Core.Path.{_≡_, refl, _∙_}
+use mathlib.Core.List.{List, _∷_}
+use Prim.Native.Nat.{ℕ, _+_, _-_}
 use native.Mathlib.Omega.{arith}
-use lib.ListN.{length}
+use lib.ListN.{drop}
 use borrow.Author.Needs.{needs}
+use Rattle.lists.proofs.RunLaws.{length-run, drop-build, drop-build-end}
+use Rattle.scan.specs.Found.{rowIn, rowsIn}
 use Rattle.scan.specs.Rows.{blank}
-use Rattle.scan.proofs.RowsLaws.{line-counted}
 use Rattle.scan.proofs.TextLayer.{blank-length}
-use Rattle.scan.proofs.Writing.{Writing, text-layer, writing-start, writing-none, writing-more, writing-last, writing-end, writing-room}
+use Rattle.scan.proofs.Writing.{Writing, text-layer, writing-start, writing-more, writing-end, writing-room}
 use Rattle.scan.proofs.write_rows.Statement.{statement}
 use Rattle.scan.proofs.write_rows.Tie as tie
 
 abbrev Inv-loop : tie.InvT-loop
-Inv-loop s at width text₀ body₀ p₀ base₀ text body p base = Writing (λ r. r) s at width text₀ text p base × Writing blank s at width body₀ body p base
+Inv-loop s lines rows width text₀ body₀ r₀ text body r =
+    Writing (λ t. t) (rowsIn s lines rows) width text₀ text r × Writing blank (rowsIn s lines rows) width body₀ body r
 
 abbrev μ-loop : tie.MeasureT-loop
-μ-loop s at width text₀ body₀ p₀ base₀ text body p base = length s - p
+μ-loop s lines rows width text₀ body₀ r₀ text body r = rows - r
+
+-- at the start
+abbrev start : tie.At-loop Inv-loop μ-loop → tie.Start Inv-loop μ-loop
+start t = t .before .before .before .before .before
+
+abbrev all : tie.At-loop Inv-loop μ-loop → List (List ℕ)
+all t = rowsIn (start t .args .s .now) (start t .args .lines .now) (start t .args .rows)
 
 loop-holds : tie.Need-loop-holds Inv-loop μ-loop
 loop-holds c =
-    let q = c .before .before .before .pre in (
-      writing-start (λ r. r) (λ r. refl) _ _ _ _ (q .0) (q .1) (q .2),
-      writing-start blank blank-length _ _ _ _ (q .0) (q .1) (q .3),
+    let a = c .before .before .before .before in
+    let n = length-run (rowIn (a .args .s .now) (a .args .lines .now)) 0 (a .args .rows) in (
+      writing-start (λ t. t) (λ t. refl) _ _ _ (a .pre .2) (rw n (a .pre .3)),
+      writing-start blank blank-length _ _ _ (a .pre .2) (rw n (a .pre .4)),
     )
 
-line-at-requires : tie.Need-line-at-requires Inv-loop μ-loop
-line-at-requires c κs = search needs
+mul-from : tie.Need-mul-from Inv-loop μ-loop
+mul-from c = search needs
 
--- the places of a turn whose line is a row
-abbrev turn : tie.Then1 Inv-loop μ-loop → tie.At-loop Inv-loop μ-loop
-turn c = c .before .before .before
+mul-from-2 : tie.Need-mul-from-2 Inv-loop μ-loop
+mul-from-2 c = search needs
 
-abbrev row : tie.After-put-row Inv-loop μ-loop → tie.Then1 Inv-loop μ-loop
-row w = w .before .before .before
+shared-slice-read-from : tie.Need-shared-slice-read-from Inv-loop μ-loop
+shared-slice-read-from c = search needs
 
-abbrev width : tie.Then1 Inv-loop μ-loop → ℕ
-width c = turn c .before .before .before .before .args .width
+mul-count : tie.Need-mul-count Inv-loop μ-loop
+mul-count c = search needs
 
--- the row has room
-room : (c : tie.Then1 Inv-loop μ-loop)
-    → (c .before .line-at .result .count ≤ width c)
-    × (turn c .loop .base + width c ≤ length (turn c .loop .text))
-    × (turn c .loop .base + width c ≤ length (turn c .loop .body))
-room c =
-    let t = writing-room (turn c .loop .inv .0) (c .before .line-at .ensures) (c .if1 .taken) in
-    let b = writing-room (turn c .loop .inv .1) (c .before .line-at .ensures) (c .if1 .taken) in
-    (t .0, t .1, b .1)
+add-count : tie.Need-add-count Inv-loop μ-loop
+add-count c = search needs
+
+mul-count-2 : tie.Need-mul-count-2 Inv-loop μ-loop
+mul-count-2 c = search needs
+
+shared-slice-read-count : tie.Need-shared-slice-read-count Inv-loop μ-loop
+shared-slice-read-count c = search needs
+
+-- the row of a turn, and those behind it
+row : (c : tie.In-loop Inv-loop μ-loop)
+    → drop (c .before .loop .r) (all (c .before)) ≡ rowIn (start (c .before) .args .s .now) (start (c .before) .args .lines .now) (c .before .loop .r) ∷ drop (c .before .loop .r + 1) (all (c .before))
+row c = let a = start (c .before) .args in drop-build (a .rows) (rowIn (a .s .now) (a .lines .now)) (c .before .loop .r) (c .loop-test .taken)
+
+mul-put-row : tie.Need-mul-put-row Inv-loop μ-loop
+mul-put-row c = search needs
 
 put-row-requires : tie.Need-put-row-requires Inv-loop μ-loop
 put-row-requires c κs =
-    let r = room (c .before .before) in
-    (line-counted (c .before .before .before .line-at .ensures), r .0, r .1, r .2)
+    let t = c .before .before .before .before in
+    let i = t .before .loop .inv in
+    let x = writing-room (i .0) (row t) in
+    let y = writing-room (i .1) (row t) in
+    let n = start (t .before) .pre .0 (t .before .loop .r) (t .loop-test .taken) in
+    (n, omega arith, x .1, y .1)
 
-same-length : tie.Need-same-length Inv-loop μ-loop
-same-length c =
-    let w = c .before .before .before .before .before in
-    w .put-row .kept .1 .1 .1 .1 .0 ∙ turn (row w) .loop .inv .0 .long
-
-same-length-2 : tie.Need-same-length-2 Inv-loop μ-loop
-same-length-2 c =
-    let w = c .before .before .before .before .before in
-    w .put-row .kept .1 .1 .1 .1 .1 .0 ∙ turn (row w) .loop .inv .1 .long
-
-returns : tie.Need-returns Inv-loop μ-loop
-returns c =
-    let w = c .before .before .before .before .before in
-    let r = row w in
-    let i = turn r .loop .inv in
-    let k = w .put-row .kept .1 .1 .1 .1 in (
-      writing-last (i .0) (r .before .line-at .ensures) (r .if1 .taken) (w .put-row .ensures .0) (k .0) (c .if2 .taken) ∙ text-layer (i .0),
-      writing-last (i .1) (r .before .line-at .ensures) (r .if1 .taken) (w .put-row .ensures .1) (k .1 .0) (c .if2 .taken),
-    )
-
-add-base : tie.Need-add-base Inv-loop μ-loop
-add-base c =
-    let r = row (c .before .before .before .before .before) in
-    omega (arith, room r, turn r .loop .inv .0 .long)
+add-r : tie.Need-add-r Inv-loop μ-loop
+add-r c = search needs
 
 loop-less : tie.Need-loop-less Inv-loop μ-loop
-loop-less c =
-    let r = row (c .before .before .before .before .before) in
-    omega (arith, r .before .line-at .ensures .further (r .before .before .loop-test .taken))
+loop-less c = search needs
 
 loop-again : tie.Need-loop-again Inv-loop μ-loop
 loop-again c =
-    let w = c .before .before .before .before .before in
-    let r = row w in
-    let i = turn r .loop .inv in
+    let w = c .before .before .before .before in
+    let t = w .before .before .before .before .before in
+    let i = t .before .loop .inv in
     let k = w .put-row .kept .1 .1 .1 .1 in (
-      writing-more (i .0) (r .before .line-at .ensures) (r .if1 .taken) (w .put-row .ensures .0) (k .0) (c .if2 .left),
-      writing-more (i .1) (r .before .line-at .ensures) (r .if1 .taken) (w .put-row .ensures .1) (k .1 .0) (c .if2 .left),
+      writing-more (i .0) (row t) (w .put-row .ensures .0) (k .0),
+      writing-more (i .1) (row t) (w .put-row .ensures .1) (k .1 .0),
     )
 
-loop-less-2 : tie.Need-loop-less-2 Inv-loop μ-loop
-loop-less-2 c = omega (arith, c .before .line-at .ensures .further (c .before .before .loop-test .taken))
+same-length : tie.Need-same-length Inv-loop μ-loop
+same-length c = c .before .loop .inv .0 .long
 
-loop-again-2 : tie.Need-loop-again-2 Inv-loop μ-loop
-loop-again-2 c =
-    let i = c .before .before .before .loop .inv in
-    (writing-none (i .0) (c .before .line-at .ensures) (c .if1 .left), writing-none (i .1) (c .before .line-at .ensures) (c .if1 .left))
+same-length-2 : tie.Need-same-length-2 Inv-loop μ-loop
+same-length-2 c = c .before .loop .inv .1 .long
 
-same-length-3 : tie.Need-same-length-3 Inv-loop μ-loop
-same-length-3 c = c .before .loop .inv .0 .long
-
-same-length-4 : tie.Need-same-length-4 Inv-loop μ-loop
-same-length-4 c = c .before .loop .inv .1 .long
-
-returns-2 : tie.Need-returns-2 Inv-loop μ-loop
-returns-2 c =
+returns : tie.Need-returns Inv-loop μ-loop
+returns c =
     let i = c .before .loop .inv in
-    (writing-end (i .0) (c .loop-test .left) ∙ text-layer (i .0), writing-end (i .1) (c .loop-test .left))
+    let a = start (c .before) .args in
+    let e = drop-build-end (a .rows) (rowIn (a .s .now) (a .lines .now)) (c .before .loop .r) (c .loop-test .left) in
+    (writing-end (i .0) e ∙ text-layer _ _ _, writing-end (i .1) e)
 
 pub write-rows-spec : {M : Type 1} → statement M
 write-rows-spec =
@@ -118,16 +109,18 @@ write-rows-spec =
     Inv-loop
     μ-loop
     loop-holds
-    line-at-requires
+    mul-from
+    mul-from-2
+    shared-slice-read-from
+    mul-count
+    add-count
+    mul-count-2
+    shared-slice-read-count
+    mul-put-row
     put-row-requires
-    same-length
-    same-length-2
-    returns
-    add-base
+    add-r
     loop-less
     loop-again
-    loop-less-2
-    loop-again-2
-    same-length-3
-    same-length-4
-    returns-2)
+    same-length
+    same-length-2
+    returns)

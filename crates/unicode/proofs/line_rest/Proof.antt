@@ -2,6 +2,7 @@
 use Rattle.utf8.specs.Utf8.{decode}
 use Rattle.utf8.specs.declared.Decoded.the-variants.{Char}
 use Rattle.utf8.proofs.Utf8Laws.{codes-bad, codes-none}
+use Rattle.unicode.proofs.WhiteLaws.{dark-no-feed}
 use Rattle.unicode.proofs.LineLaws.{Scanned, scan-start, scan-fits, scan-white, scan-dark, scan-feed, scan-stop, scan-end}
 use mathlib.Core.Path.{_≡_, sym, _∙_}
 use Prim.Native.Nat.{_-_}
@@ -26,33 +27,42 @@ next-requires c κs = search needs
 enum-known-d : tie.Need-enum-known-d Inv-loop μ-loop
 enum-known-d c = search needs
 
--- in the arm of a code point
-char : (c : tie.After-known-told Inv-loop μ-loop) → decode (drop (c .before .before .before .before .before .loop .p) (c .before .before .before .before .before .before .before .args .s .now)) ≡ Char (c .before .d .given .0 .0) (c .before .d .given .0 .1 .0)
+-- the turn, in the arm of a code point
+abbrev turn : tie.After-known-told Inv-loop μ-loop → tie.At-loop Inv-loop μ-loop
+turn c = c .before .before .before .before .before
+
+-- what is read there
+char : (c : tie.After-known-told Inv-loop μ-loop) → decode (drop (turn c .loop .p) (turn c .before .before .args .s .now)) ≡ Char (c .before .d .given .0 .0) (c .before .d .given .0 .1 .0)
 char c = sym (c .before .before .before .next .ensures) ∙ c .before .d .given .1
 
 add-p : tie.Need-add-p Inv-loop μ-loop
-add-p c = omega (arith, scan-fits (c .before .before .before .before .before .loop .inv) (char c))
-
-returns : tie.Need-returns Inv-loop μ-loop
-returns c = scan-feed (c .before .before .before .before .before .before .loop .inv) (char (c .before)) (c .if1 .taken)
+add-p c = omega (arith, scan-fits (turn c .loop .inv) (char c))
 
 add-k : tie.Need-add-k Inv-loop μ-loop
-add-k c = omega (arith, scan-fits (c .before .before .before .before .before .before .loop .inv) (char (c .before)))
+add-k c = omega (arith, scan-fits (turn c .loop .inv) (char c))
 
 white-space-requires : tie.Need-white-space-requires Inv-loop μ-loop
 white-space-requires c κs = search needs
 
+returns : tie.Need-returns Inv-loop μ-loop
+returns c = let k = c .before .before .before in scan-feed (turn k .loop .inv) (char k) (c .if2 .taken)
+
 loop-less : tie.Need-loop-less Inv-loop μ-loop
-loop-less c = omega (arith, scan-fits (c .before .before .before .before .before .before .before .before .loop .inv) (char (c .before .before .before)))
+loop-less c = let k = c .before .before .before in omega (arith, scan-fits (turn k .loop .inv) (char k))
 
 loop-again : tie.Need-loop-again Inv-loop μ-loop
-loop-again c = scan-white (c .before .before .before .before .before .before .before .before .loop .inv) (char (c .before .before .before)) (c .before .before .if1 .left) (sym (c .before .white-space .ensures) ∙ c .if2 .taken)
+loop-again c =
+    let k = c .before .before .before in
+    scan-white (turn k .loop .inv) (char k) (c .if2 .left) (sym (c .before .before .white-space .ensures) ∙ c .before .if1 .taken)
 
 loop-less-2 : tie.Need-loop-less-2 Inv-loop μ-loop
-loop-less-2 c = omega (arith, scan-fits (c .before .before .before .before .before .before .before .before .loop .inv) (char (c .before .before .before)))
+loop-less-2 c = let k = c .before .before in omega (arith, scan-fits (turn k .loop .inv) (char k))
 
 loop-again-2 : tie.Need-loop-again-2 Inv-loop μ-loop
-loop-again-2 c = scan-dark (c .before .before .before .before .before .before .before .before .loop .inv) (char (c .before .before .before)) (c .before .before .if1 .left) (sym (c .before .white-space .ensures) ∙ c .if2 .left)
+loop-again-2 c =
+    let k = c .before .before in
+    let w = sym (c .before .white-space .ensures) ∙ c .if1 .left in
+    scan-dark (turn k .loop .inv) (char k) (dark-no-feed w) w
 
 enum-told : tie.Need-enum-told Inv-loop μ-loop
 enum-told c = search needs
@@ -79,9 +89,9 @@ line-rest-spec =
     next-requires
     enum-known-d
     add-p
-    returns
     add-k
     white-space-requires
+    returns
     loop-less
     loop-again
     loop-less-2
