@@ -1,7 +1,6 @@
 // The plane step: from the frames of GRID, the regions and the crossings to the plane.
 use model::Cell;
 use model::Refusal;
-use model::limits::CANVAS_SIZE;
 use model::limits::PLANE_CELLS;
 use model::limits::PLANE_ROWS;
 use outline::Crossing;
@@ -422,7 +421,7 @@ fn add_grid_rows(
     PlaneMade::Made(s.rows)
 }
 
-// The plane of a GRID layer of w columns and h rows, over `count` regions.
+// The plane of a GRID layer of w columns and h rows, over `count` regions. The numbers of its frames are left in `found`.
 pub fn make_plane(
     o: Outline,
     layer: &[u32],
@@ -430,13 +429,13 @@ pub fn make_plane(
     h: usize,
     rects: &[u32],
     count: usize,
+    found: &mut [u32],
     plane: &mut [u32],
 ) -> PlaneMade
-    requires { ⌜ StepRoom w h count (now layer) (now rects) × (planeSize ≤ length (now plane)) ⌝ }
+    requires { ⌜ StepRoom w h count (now layer) (now rects) (now found) × (planeSize ≤ length (now plane)) ⌝ }
     ensures made { λ r. ⌜ planeMade r (now (plane .exit)) ≡ planeOf o (rectsOf (now (rects .entry)) count) (canvas w h (now (layer .entry))) w h ⌝ }
     ensures fits { λ r. ⌜ MadeFits r (now (plane .exit)) ⌝ }
 {
-    let mut found = [0u32; CANVAS_SIZE];
-    lookup::number_frames(layer, w, h, rects, count, &mut found);
-    add_grid_rows(o, layer, w, h, &found, count, plane)
+    lookup::number_frames(layer, w, h, rects, count, found);
+    add_grid_rows(o, layer, w, h, found, count, plane)
 }
