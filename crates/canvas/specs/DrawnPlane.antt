@@ -4,7 +4,7 @@ use Prim.Native.Nat.{ℕ, _*_, _≤_}
 use lib.ListN.{length, take}
 use Rattle.lists.specs.Answer.{ok, refused, _>>=_}
 use Rattle.lists.specs.Picture.{Picture}
-use Rattle.model.specs.Limits.{canvasSize, planeSize, textBytes}
+use Rattle.model.specs.Limits.{planeSize, textBytes}
 use Rattle.model.specs.Refusals.{Reading}
 use Rattle.cells.specs.Held.{Held}
 use Rattle.cells.specs.Plane.{TextPlane, planeIn}
@@ -39,9 +39,9 @@ abbrev pub PlaneHeld : PlaneRead → List ℕ → List ℕ → List ℕ → Type
 PlaneHeld (Rows n count) plane bytes spans = Held plane n (take textBytes bytes) spans count
 PlaneHeld (NoPlane r) plane bytes spans = Unit {0}
 
--- the slices that reading a plane is handed; a canvas has at most 15,360 characters
-pub record PlaneRoom (w h : ℕ) (t m g rects bytes spans d : List ℕ) : Type 0 where
+-- the slices that reading a plane is handed; b has a place for the number of each frame
+pub record PlaneRoom (w h : ℕ) (t m g b rects bytes spans d : List ℕ) : Type 0 where
   pub regions : RegionRoom w h t m rects bytes spans
   pub grid : Layer w h (length g)
-  pub size : h * w ≤ canvasSize
+  pub size : h * w ≤ length b
   pub plane : planeSize ≤ length d

@@ -89,9 +89,10 @@ module _ (o : Outline) (text thin grid : List ℕ) (w h : ℕ) (r : RegionsRead)
   not-read k = lines _ (ap (λ (r : RegionsRead). regionsIn r rects bytes spans) k)
 
 -- the plane step's slices
-pub step-room : {w h n : ℕ} {grid rects : List ℕ} → Layer w h grid → n ≤ regionCount → regionCount * 4 ≤ length rects → StepRoom w h n grid rects
-step-room l k r =
-    record { layer = record { columns = omega (arith, l .columns); rows = omega (arith, l .rows); size = l .size }; size = mul-le-mul (l .rows) (l .columns); few = k; rects = omega arith }
+pub step-room : {w h n : ℕ} {grid rects found : List ℕ} → Layer w h grid → n ≤ regionCount → n * 4 ≤ length rects → canvasSize ≤ length found → StepRoom w h n grid rects found
+step-room {w} {h} l k r f =
+    let s : h * w ≤ canvasSize = mul-le-mul (l .rows) (l .columns) in
+    record { layer = record { columns = omega (arith, l .columns); rows = omega (arith, l .rows); size = l .size }; size = omega arith; few = k; rects = r }
 
 -- what is printed of a plane that is made, or not
 module _ (m : PlaneMade) (d : List ℕ) (x : Reading Plane) (e : planeMade m d ≡ x) where

@@ -4,11 +4,11 @@ use canvas::RegionsRead;
 use model::limits::CANVAS_SIZE;
 use outline::Outline;
 use step::PlaneMade;
-ghost use Prim.Native.Nat.{_+_, _≤_};
+ghost use Prim.Native.Nat.{_+_, _*_, _≤_};
 ghost use lib.ListN.{length};
 ghost use Rattle.lists.specs.Picture.{canvas};
+ghost use Rattle.model.specs.Limits.{regionCount};
 ghost use Rattle.regions.specs.Rects.{rectsOf};
-ghost use Rattle.step.specs.Made.{StepRoom};
 ghost use Rattle.step.specs.PlaneStep.{planeOf};
 ghost use Rattle.canvas.specs.RegionTexts.{regionTextsOf};
 ghost use Rattle.print.specs.Decimal.{Written};
@@ -28,11 +28,12 @@ fn put_step(
     rects: &[u32],
     count: usize,
 ) -> usize
-    requires { ⌜ (at + planeBytes ≤ length (now out)) × StepRoom w h count (now grid) (now rects) ⌝ }
+    requires { ⌜ (at + planeBytes ≤ length (now out)) × Layer w h (now grid) × (count ≤ regionCount) × (count * 4 ≤ length (now rects)) ⌝ }
     ensures { λ r. ⌜ Written (now (out .entry)) (now (out .exit)) at (planePrinted (planeOf o (rectsOf (now (rects .entry)) count) (canvas w h (now (grid .entry))) w h)) planeBytes r ⌝ }
 {
+    let mut found = [0u32; CANVAS_SIZE];
     let mut plane = [0u32; 4160];
-    match step::make_plane(o, grid, w, h, rects, count, &mut plane) {
+    match step::make_plane(o, grid, w, h, rects, count, &mut found, &mut plane) {
         PlaneMade::Made(n) => sketch::put_plane(out, at, &plane, n),
         PlaneMade::NotMade(r) => print::put_refusal(out, at, r),
     }

@@ -31,7 +31,7 @@ use Rattle.texts.specs.RegionText.{textOf}
 use Rattle.texts.proofs.TextsLaws.{texts-are}
 use Rattle.walks.specs.Frame.{frameOf}
 use Rattle.walks.specs.Kinds as kind
-use Rattle.canvas.specs.Drawn.{Shown}
+use Rattle.canvas.specs.Drawn.{Shown, Room}
 use Rattle.canvas.specs.DrawnPlane.{textPlaneOf, PlaneRoom}
 use Rattle.canvas.specs.Layers.{textLayer, drawingOf, sheetOf}
 use Rattle.canvas.proofs.NameIsFirstRegion.{name-is-first-region}
@@ -126,11 +126,16 @@ module _ (s : List ℕ) (o : Outline) (e : ok o ≡ sheetOf s) {h w : ℕ} {t m 
       let f = size-in in
       record { columns = omega arith; rows = omega arith; size = omega arith }
 
-  pub plane-room : {rects bytes spans d : List ℕ} → canvasSize ≤ length t → canvasSize ≤ length m → canvasSize ≤ length g → regionCount * 4 ≤ length rects → textBytes + 4 ≤ length bytes
-      → regionCount * 2 ≤ length spans → planeSize ≤ length d → PlaneRoom w h t m g rects bytes spans d
-  plane-room a c f r x y z =
+  pub plane-room : {rects bytes spans d : List ℕ} → Room t m b g → regionCount * 4 ≤ length rects → textBytes + 4 ≤ length bytes → regionCount * 2 ≤ length spans → planeSize ≤ length d
+      → PlaneRoom w h t m g b rects bytes spans d
+  plane-room a r x y z =
       let q = size-in in
-      record { regions = record { layer = layer-in m c; size = omega arith; fourEach = r; allTexts = x; twoEach = y }; grid = layer-in g f; size = q .2; plane = z }
+      record {
+        regions = record { layer = layer-in m (a .thin); size = omega (arith, a .text); fourEach = r; allTexts = x; twoEach = y };
+        grid = layer-in g (a .grid);
+        size = omega (arith, a .body);
+        plane = z;
+      }
 
   -- its plane
   as-drawn : textPlaneOf o (canvas w h t) (canvas w h m) (canvas w h g) w h ≡ drawnPlaneBy frameOf (rowsAt s 0) o

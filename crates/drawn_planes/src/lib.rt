@@ -33,6 +33,7 @@ pub fn drawn_plane(
             text,
             thins,
             grid,
+            bodies,
             columns,
             rows,
             rects,

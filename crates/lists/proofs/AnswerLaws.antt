@@ -1,8 +1,9 @@
 -- Laws of answers: one turn of a loop over those places at which a test holds, and monotonicity.
-use mathlib.Core.Path.{_≡_, refl, ap, _∙_}
+use mathlib.Core.Path.{_≡_, refl, ap, _∙_, subst}
 use mathlib.Core.Bool.{Bool, true, false}
 use mathlib.Core.List.{List, [], _∷_}
-use Prim.Native.Nat.{ℕ, suc, _+_, _-_, _≤_, _<_}
+use Prim.Native.Nat.{ℕ, zero, suc, _+_, _-_, _≤_, _<_}
+use native.Mathlib.Nat.{add-zero}
 use native.Mathlib.Numerals.{add-one}
 use native.Mathlib.Omega.{arith}
 use Rattle.lists.specs.Choose.{choose}
@@ -23,6 +24,19 @@ unfolding those
 those-next h x w l =
     let e : w - x ≡ suc (w - (x + 1)) = omega arith in
     rw (e, add-one x)
+
+pass-over : (h : ℕ → Bool) (w x n : ℕ) → x + n ≤ w → ((j : ℕ) → x ≤ j → j < x + n → h j ≡ false) → those h x (w - x) ≡ those h (x + n) (w - (x + n))
+pass-over h w x zero l c = rw (add-zero x)
+pass-over h w x (suc n) l c =
+    let z : x + 1 + n ≡ x + suc n = omega arith in
+    those-next h x w (omega arith) ∙ rw (c x (omega arith) (omega arith))
+    (subst (λ (m : ℕ). those h (x + 1) (w - (x + 1)) ≡ those h m (w - m)) z (pass-over h w (x + 1) n (omega arith) (λ j a b. c j (omega arith) (omega arith))))
+
+-- numbers at which h does not hold are passed over
+pub those-from : (h : ℕ → Bool) (w x k : ℕ) → x ≤ k → k ≤ w → ((j : ℕ) → x ≤ j → j < k → h j ≡ false) → those h x (w - x) ≡ those h k (w - k)
+those-from h w x k a b c =
+    let z : x + (k - x) ≡ k = omega arith in
+    subst (λ (m : ℕ). those h x (w - x) ≡ those h m (w - m)) z (pass-over h w x (k - x) (omega arith) (λ j d e. c j d (omega arith)))
 
 -- a loop over those of 0, .., w - 1 at which h holds has come to x, in the state s
 module _ {R S : Type 0} (f : ℕ → S → Answer R S) (h : ℕ → Bool) where

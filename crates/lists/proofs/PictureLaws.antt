@@ -30,11 +30,15 @@ module _ (w h : ℕ) where
       (λ f. let n : x < w → y < h → ⊥ = λ p q. omega (arith, ltb-false y h f) in within-out G x y n ∙ sym (o x y n)))
       (λ e. let n : x < w → y < h → ⊥ = λ p q. omega (arith, ltb-false x w e) in within-out G x y n ∙ sym (o x y n))))
 
--- a place of a picture of b rows lies in its list
-pub place-fits : (b w x y n : ℕ) → x < w → y < b → b * w ≤ n → y * w + x < n
-place-fits b w x y n h g f =
+-- a row of a picture of b rows lies in its list
+pub row-fits : (b w y n : ℕ) → y < b → b * w ≤ n → y * w + w ≤ n
+row-fits b w y n g f =
     let m : suc y * w ≤ b * w = mul-le-mul-right w g in
     omega (arith, suc-mul y w)
+
+-- so does a place
+pub place-fits : (b w x y n : ℕ) → x < w → y < b → b * w ≤ n → y * w + x < n
+place-fits b w x y n h g f = omega (arith, row-fits b w y n g f)
 
 -- a place of a picture has one column and one row
 pub euclid : (w x y u v : ℕ) → x < w → u < w → y * w + x ≡ v * w + u → (y ≡ v) × (x ≡ u)

@@ -1,31 +1,12 @@
--- Corners that are sought, and frames that are numbered one after the other.
-use mathlib.Core.{Path._≡_, Path.sym, Path.ap, Path._∙_, Path.subst, Bool.true, Bool.false, List.List}
+-- Frames that are numbered one after the other.
+use mathlib.Core.{Path._≡_, Path.sym, Path.ap, Path._∙_, Path.subst, Bool.true, List.List}
 use Prim.Native.Nat.{ℕ, _+_, _*_, _/_, _%_, _≤_, _<_, _^_}
 use native.Mathlib.{Nat.le-trans, Nat.le-div-iff-mul-le, Nat.div-mul-le-self, Omega.arith}
 use lib.{Dec.ltb, ListN.length, ListN.getD, ListN.set, Seq.getD-set-same, Seq.getD-set-other}
 use borrow.Author.Tests.{ltb-true, ltb-false}
 use Rattle.lists.{specs.Picture.canvas, specs.Picture.at, proofs.PlaceLaws.columns, proofs.PlaceLaws.at-canvas, proofs.RunLaws.length-run, proofs.Tests.by-flag, proofs.Tests.true-false}
 use Rattle.regions.{specs.Rects.rectAt, specs.Rects.rectsOf, specs.Regions.Finder, specs.Regions.isCorner}
-use Rattle.lookup.specs.{Lookup.firstOf, Lookup.numberOf, Lookup.Numbered, Numbers.Above, Numbers.NextCorner, Numbers.numberIn, Numbers.Seen, Numbers.Stored, declared.Sought.Sought}
-
-pub corner-start : (d : List ℕ) (size i : ℕ) → i ≤ size → NextCorner d size i i
-corner-start d size i h = record { from = omega arith; to = h; clear = λ j a b. absurd (omega arith) }
-
-module _ {d : List ℕ} {size i k : ℕ} (q : NextCorner d size i k) where
-  pub corner-more : k < size → isCorner (getD d k 0) ≡ false → NextCorner d size i (k + 1)
-  corner-more h e =
-      record {
-        from = omega (arith, q .from);
-        to = omega arith;
-        clear = λ j a b.
-            by-flag (ltb j k) (λ y. q .clear j a (ltb-true j k y))
-            (λ n.
-            let z : k ≡ j = omega (arith, ltb-false j k n) in
-            subst (λ (m : ℕ). isCorner (getD d m 0) ≡ false) z e);
-      }
-
-  pub corner-end : size ≤ k → NextCorner d size i size
-  corner-end h = let z : k ≡ size = omega (arith, q .to) in subst (NextCorner d size i) z q
+use Rattle.lookup.specs.{Lookup.firstOf, Lookup.numberOf, Lookup.Numbered, Numbers.Above, Numbers.numberIn, Numbers.Seen, Numbers.Stored, declared.Sought.Sought}
 
 pub number-small : (s : Sought) (k n : ℕ) → k < 2 ^ 32 → n < 2 ^ 32 → numberIn s k n < 2 ^ 32
 number-small s k n a b = by-flag (s .framed) (λ y. rw y a) (λ z. rw z b)

@@ -7,8 +7,9 @@ use lib.ListN.{length, getD, set}
 use Rattle.lists.specs.Choose.{choose}
 use Rattle.model.specs.Geometry.{containsOf}
 use Rattle.model.specs.declared.Rect.{Rect}
+use Rattle.regions.specs.Corners.{cornerIn, NextCorner}
 use Rattle.regions.specs.Rects.{rectAt}
-use Rattle.regions.specs.Regions.{Finder, isCorner}
+use Rattle.regions.specs.Regions.{Finder}
 use Rattle.lookup.specs.Lookup.{firstOf, numberOf}
 use Rattle.lookup.specs.declared.Sought.{Sought}
 
@@ -24,19 +25,13 @@ Above d n row = (j : ℕ) → j < n → rectAt d j .bottom ≤ row
 abbrev pub Without : List Rect → ℕ → Rect → Type 0
 Without rs n f = (j : ℕ) → j < n → containsOf (getD rs j none) f ≡ false
 
--- no corner stands from place i to place k, of the first `size` characters
-pub record NextCorner (d : List ℕ) (size i k : ℕ) : Type 0 where
-  pub from : i ≤ k
-  pub to : k ≤ size
-  pub clear : (j : ℕ) → i ≤ j → j < k → isCorner (getD d j 0) ≡ false
-
 -- the number of a frame that was sought, by that of the first rect that contains it
 abbrev pub numberIn : Sought → ℕ → ℕ → ℕ
 numberIn s k count = choose (s .framed) k count
 
 -- the next corner from place i on, the row under it, and the frame that starts there; where none does, still a rect that ends below that row
 pub record Seen (find : Finder) (d : List ℕ) (w size i : ℕ) (s : Sought) : Type 0 where
-  pub next : NextCorner d size i (s .at)
+  pub next : NextCorner (cornerIn d) size i (s .at)
   pub under : s .under ≡ s .at / w + 1
   pub ends : s .under < s .frame .bottom
   pub frame : s .at < size → (rs : List Rect) → numberIn s (firstOf rs (s .frame)) (length rs) ≡ numberOf find rs (s .at % w) (s .at / w)

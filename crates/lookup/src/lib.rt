@@ -12,7 +12,7 @@ ghost use Rattle.regions.specs.Rects.{rectAt, rectsOf, Layer};
 ghost use Rattle.walks.specs.Frame.{frameOf};
 ghost use Rattle.walks.specs.Kinds.{grid};
 ghost use Rattle.lookup.specs.Lookup.{firstOf, Numbered};
-ghost use Rattle.lookup.specs.Numbers.{Above, NextCorner, numberIn, Seen, Stored, Without};
+ghost use Rattle.lookup.specs.Numbers.{Above, numberIn, Seen, Stored, Without};
 
 // The rect of four numbers.
 fn rect_of(left: u32, top: u32, right: u32, bottom: u32) -> Rect
@@ -88,28 +88,13 @@ struct Sought {
     frame: Rect,
 }
 
-// The first corner from place i on, or `size`.
-fn next_corner(layer: &[u32], size: usize, i: usize) -> usize
-    requires { ⌜ (i ≤ size) × (size ≤ length (now layer)) ⌝ }
-    ensures { λ r. ⌜ NextCorner (now (layer .entry)) size i r ⌝ }
-{
-    let mut k = i;
-    while k < size {
-        if regions::is_corner(layer[k]) {
-            return k;
-        }
-        k += 1;
-    }
-    size
-}
-
-// That corner, with its frame. Where there is none, some rect that ends below the row under the corner, as a frame does.
+// The first corner from place i on, with its frame. Where there is none, some rect that ends below the row under the corner, as a frame does.
 fn seek(layer: &[u32], w: usize, h: usize, i: usize) -> Sought
     requires { ⌜ Layer w h (length (now layer)) × (i < h * w) ⌝ }
     ensures { λ r. ⌜ Seen (frameOf grid (canvas w h (now (layer .entry))) w h) (now (layer .entry)) w (h * w) i r ⌝ }
 {
     let size = h * w;
-    let at = next_corner(layer, size, i);
+    let at = regions::next_corner(layer, size, i);
     let row = at / w;
     let under = row + 1;
     let nowhere = Rect {

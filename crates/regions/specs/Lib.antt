@@ -1,3 +1,4 @@
 pub mod Regions
+pub mod Corners
 pub mod Rects
 pub mod Within

@@ -15,6 +15,7 @@ ghost use Rattle.model.specs.Limits.{regionCount};
 ghost use Rattle.walks.specs.Frame.{frameOf};
 ghost use Rattle.walks.specs.Kinds.{thin};
 ghost use Rattle.regions.specs.Regions.{isCorner, cornersOf, addRegion, regionsOf};
+ghost use Rattle.regions.specs.Corners.{cornerIn, NextCorner};
 ghost use Rattle.regions.specs.Rects.{rectsOf, regionsIn, Small, Layer};
 ghost use Rattle.regions.specs.Within.{addWithin};
 
@@ -35,6 +36,21 @@ pub fn is_corner(code: u32) -> bool
         LIGHT_VERTICAL_AND_HORIZONTAL => true,
         _ => false,
     }
+}
+
+// The first corner from place i on, or `size`.
+pub fn next_corner(layer: &[u32], size: usize, i: usize) -> usize
+    requires { ⌜ (i ≤ size) × (size ≤ length (now layer)) ⌝ }
+    ensures { λ r. ⌜ NextCorner (cornerIn (now (layer .entry))) size i r ⌝ }
+{
+    let mut k = i;
+    while k < size {
+        if is_corner(layer[k]) {
+            return k;
+        }
+        k += 1;
+    }
+    size
 }
 
 // The corners of a layer of w columns and h rows.

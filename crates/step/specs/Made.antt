@@ -7,7 +7,7 @@ use lib.ListN.{length}
 use Rattle.lists.specs.Answer.{ok, refused}
 use Rattle.lists.specs.Choose.{choose}
 use Rattle.lists.specs.Picture.{canvas}
-use Rattle.model.specs.Limits.{canvasSize, planeRows, planeCells, regionCount}
+use Rattle.model.specs.Limits.{planeRows, planeCells, regionCount}
 use Rattle.model.specs.Refusals.{Reading}
 use Rattle.model.specs.declared.Cell.{Cell}
 use Rattle.model.specs.declared.Rect.{Rect}
@@ -82,14 +82,14 @@ abbrev pub MadeFits : PlaneMade → List ℕ → Type 0
 MadeFits (Made n) d = PlaneFits d n
 MadeFits (NotMade r) d = Unit {0}
 
--- the layer GRID of w columns and h rows, of at most 15,360 characters, and the rects of the regions, four numbers each
-pub record StepRoom (w h count : ℕ) (l r : List ℕ) : Type 0 where
+-- the layer GRID of w columns and h rows, the rects of the regions, four numbers each, and a place for the number of each frame
+pub record StepRoom (w h count : ℕ) (l r found : List ℕ) : Type 0 where
   pub layer : Layer w h (length l)
-  pub size : h * w ≤ canvasSize
+  pub size : h * w ≤ length found
   pub few : count ≤ regionCount
   pub rects : count * 4 ≤ length r
 
--- the same, with the numbers of its frames
+-- that layer, with the numbers of its frames
 pub record NumberRoom (w h count : ℕ) (l found : List ℕ) : Type 0 where
   pub layer : Layer w h (length l)
   pub few : count ≤ regionCount

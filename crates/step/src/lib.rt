@@ -1,7 +1,6 @@
 // The plane step: from the frames of GRID, the regions and the crossings to the plane.
 use model::Cell;
 use model::Refusal;
-use model::limits::CANVAS_SIZE;
 use model::limits::PLANE_CELLS;
 use model::limits::PLANE_ROWS;
 use outline::Crossing;
@@ -14,12 +13,13 @@ ghost use Prim.Native.Nat.{_+_, _*_, _≤_, _<_};
 ghost use lib.ListN.{length};
 ghost use Rattle.lists.specs.Answer.{ok};
 ghost use Rattle.lists.specs.Choose.{choose};
-ghost use Rattle.lists.specs.Picture.{canvas};
+ghost use Rattle.lists.specs.Picture.{pic, canvas};
 ghost use Rattle.lists.specs.Run.{build};
 ghost use Rattle.outline.specs.declared.Crossing.the-variants.{At};
 ghost use Rattle.model.specs.Cells.{Small};
 ghost use Rattle.model.specs.Limits.{planeRows, planeCells, planeSize, regionCount};
 ghost use Rattle.cells.specs.Plane.{cellsIn, KeptBefore};
+ghost use Rattle.regions.specs.Corners.{NextCorner};
 ghost use Rattle.regions.specs.Rects.{rectsOf};
 ghost use Rattle.regions.specs.Regions.{isCorner};
 ghost use Rattle.walks.specs.Frame.{frameOf, Place};
@@ -157,29 +157,13 @@ fn add_frame(
     RowMade::NoCells(why_none(layer, w, h, x, y))
 }
 
-// The same where a corner stands there; else the row is as it was.
-fn add_if_corner(
-    o: Outline,
-    layer: &[u32],
-    w: usize,
-    h: usize,
-    x: usize,
-    y: usize,
-    found: &[u32],
-    count: usize,
-    plane: &mut [u32],
-    row: usize,
-    s: RowSofar,
-) -> RowMade
-    requires { ⌜ NumberRoom w h count (now layer) (now found) × (x < w) × (y < h) × RowFit s row × (planeSize ≤ length (now plane)) ⌝ }
-    ensures made { λ r. ⌜ Over w h count (now (layer .entry)) (now (found .entry)) (λ rs. rowMade r (now (plane .exit)) row ≡ choose (isCorner (canvas w h (now (layer .entry)) x y)) (addCell o (frameOf grid (canvas w h (now (layer .entry))) w h) rs row y x (rowOf s (now (plane .entry)) row)) (ok (rowOf s (now (plane .entry)) row))) ⌝ }
-    ensures fits { λ r. ⌜ RowFits r row ⌝ }
-    ensures before { λ _. ⌜ KeptBefore (now (plane .entry)) (now (plane .exit)) row ⌝ }
+// The column of the first corner of row y from column x on, or w.
+fn corner_in_row(layer: &[u32], w: usize, x: usize, y: usize) -> usize
+    requires { ⌜ (x ≤ w) × (y * w + w ≤ length (now layer)) ⌝ }
+    ensures { λ r. ⌜ NextCorner (λ i. isCorner (pic w (now (layer .entry)) i y)) w x r ⌝ }
 {
-    if regions::is_corner(layer[y * w + x]) {
-        return add_frame(o, layer, w, h, x, y, found, count, plane, row, s);
-    }
-    RowMade::Cells(s)
+    let start = y * w;
+    regions::next_corner(layer, start + w, start + x) - start
 }
 
 // The frames that start in row y, as a row of the plane.
@@ -201,18 +185,18 @@ fn make_row(
     ensures fits { λ r. ⌜ RowFits r row ⌝ }
     ensures before { λ _. ⌜ KeptBefore (now (plane .entry)) (now (plane .exit)) row ⌝ }
 {
-    let mut x = 0;
+    let mut x = corner_in_row(layer, w, 0, y);
     let mut s = RowSofar {
         cells: 0,
         output,
         annotation,
     };
     while x < w {
-        s = match add_if_corner(o, layer, w, h, x, y, found, count, plane, row, s) {
+        s = match add_frame(o, layer, w, h, x, y, found, count, plane, row, s) {
             RowMade::Cells(t) => t,
             RowMade::NoCells(r) => return RowMade::NoCells(r),
         };
-        x += 1;
+        x = corner_in_row(layer, w, x + 1, y);
     }
     RowMade::Cells(s)
 }
@@ -422,7 +406,7 @@ fn add_grid_rows(
     PlaneMade::Made(s.rows)
 }
 
-// The plane of a GRID layer of w columns and h rows, over `count` regions.
+// The plane of a GRID layer of w columns and h rows, over `count` regions. The numbers of its frames are left in `found`.
 pub fn make_plane(
     o: Outline,
     layer: &[u32],
@@ -430,13 +414,13 @@ pub fn make_plane(
     h: usize,
     rects: &[u32],
     count: usize,
+    found: &mut [u32],
     plane: &mut [u32],
 ) -> PlaneMade
-    requires { ⌜ StepRoom w h count (now layer) (now rects) × (planeSize ≤ length (now plane)) ⌝ }
+    requires { ⌜ StepRoom w h count (now layer) (now rects) (now found) × (planeSize ≤ length (now plane)) ⌝ }
     ensures made { λ r. ⌜ planeMade r (now (plane .exit)) ≡ planeOf o (rectsOf (now (rects .entry)) count) (canvas w h (now (layer .entry))) w h ⌝ }
     ensures fits { λ r. ⌜ MadeFits r (now (plane .exit)) ⌝ }
 {
-    let mut found = [0u32; CANVAS_SIZE];
-    lookup::number_frames(layer, w, h, rects, count, &mut found);
-    add_grid_rows(o, layer, w, h, &found, count, plane)
+    lookup::number_frames(layer, w, h, rects, count, found);
+    add_grid_rows(o, layer, w, h, found, count, plane)
 }

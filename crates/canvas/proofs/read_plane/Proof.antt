@@ -22,7 +22,7 @@ abbrev read : tie.After-known-told → tie.After-read-regions
 read c = c .before .before .before .before .before .before .before .before .before
 
 abbrev start : tie.After-known-told → tie.Start
-start c = read c .before .before .before .before .before .before .before .before .before .before .before
+start c = read c .before .before .before .before .before .before .before .before .before .before .before .before
 
 abbrev count : tie.After-known-told → ℕ
 count c = c .before .count .given .0 .0
@@ -53,7 +53,7 @@ enum-known-count c = search needs
 
 make-plane-requires : tie.Need-make-plane-requires
 make-plane-requires c κs =
-    let k = c .before .before in
+    let k = c .before .before .before in
     let p = start k .pre in
     let u = used k in
     (record { layer = p .grid; size = p .size; few = u .0; rects = omega (arith, u .0, p .regions .fourEach, read k .read-regions .kept .1 .1 .1 .1 .0) }, p .plane)
@@ -79,21 +79,21 @@ same-length-3 c = search needs
 same-length-4 : tie.Need-same-length-4
 same-length-4 c = search needs
 
+same-length-5 : tie.Need-same-length-5
+same-length-5 c = search needs
+
 returns : tie.Need-returns
 returns c =
-    let m = c .before .before .before .before .before in
-    let k = m .before .before .before in
+    let m = c .before .before .before .before .before .before .before in
+    let k = m .before .before .before .before in
     let p = start k .pre in
     let r = read k .read-regions in
     let u = used k in
-    let e = ap (λ (x : PlaneMade). planeMade x (m .make-plane .last .1 .1 .1 .1 .1 .1 .0)) (sym (c .before .n .given .1)) ∙ m .make-plane .ensures .0 in
-    let f = subst (λ (x : PlaneMade). MadeFits x (m .make-plane .last .1 .1 .1 .1 .1 .1 .0)) (c .before .n .given .1) (m .make-plane .ensures .1) in (
+    let e = ap (λ (x : PlaneMade). planeMade x (m .make-plane .last .1 .1 .1 .1 .1 .1 .1 .0)) (sym (c .before .n .given .1)) ∙ m .make-plane .ensures .0 in
+    let f = subst (λ (x : PlaneMade). MadeFits x (m .make-plane .last .1 .1 .1 .1 .1 .1 .1 .0)) (c .before .n .given .1) (m .make-plane .ensures .1) in (
       with-plane _ _ _ _ _ _ _ (told k) _ e,
       plane-held _ _ _ _ _ (count k) (k .before .count .given .0 .1 .0) (rects k) _ (bytes k) (spans k) e f u (omega (arith, p .regions .allTexts, r .kept .1 .1 .1 .1 .1 .0)) (omega (arith, u .0, p .regions .twoEach, r .kept .1 .1 .1 .1 .1 .1 .0)),
     )
-
-same-length-5 : tie.Need-same-length-5
-same-length-5 c = search needs
 
 same-length-6 : tie.Need-same-length-6
 same-length-6 c = search needs
@@ -104,20 +104,26 @@ same-length-7 c = search needs
 same-length-8 : tie.Need-same-length-8
 same-length-8 c = search needs
 
-returns-2 : tie.Need-returns-2
-returns-2 c =
-    let m = c .before .before .before .before .before in
-    let k = m .before .before .before in
-    (no-plane _ _ _ _ _ _ _ (told k) _ (ap (λ (x : PlaneMade). planeMade x (m .make-plane .last .1 .1 .1 .1 .1 .1 .0)) (sym (c .before .r .given .1)) ∙ m .make-plane .ensures .0), tt)
-
 same-length-9 : tie.Need-same-length-9
 same-length-9 c = search needs
 
 same-length-10 : tie.Need-same-length-10
 same-length-10 c = search needs
 
+returns-2 : tie.Need-returns-2
+returns-2 c =
+    let m = c .before .before .before .before .before .before .before in
+    let k = m .before .before .before .before in
+    (no-plane _ _ _ _ _ _ _ (told k) _ (ap (λ (x : PlaneMade). planeMade x (m .make-plane .last .1 .1 .1 .1 .1 .1 .1 .0)) (sym (c .before .r .given .1)) ∙ m .make-plane .ensures .0), tt)
+
 same-length-11 : tie.Need-same-length-11
 same-length-11 c = search needs
+
+same-length-12 : tie.Need-same-length-12
+same-length-12 c = search needs
+
+same-length-13 : tie.Need-same-length-13
+same-length-13 c = search needs
 
 returns-3 : tie.Need-returns-3
 returns-3 c =
@@ -138,13 +144,15 @@ read-plane-spec =
     same-length-2
     same-length-3
     same-length-4
-    returns
     same-length-5
+    returns
     same-length-6
     same-length-7
     same-length-8
-    returns-2
     same-length-9
     same-length-10
+    returns-2
     same-length-11
+    same-length-12
+    same-length-13
     returns-3)

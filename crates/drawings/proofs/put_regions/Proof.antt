@@ -1,6 +1,6 @@
 -- `drawings::put_regions` meets its contract.
 use Rattle.print.proofs.WrittenLaws.{written-then, written-as, written-within}
-use Rattle.drawings.proofs.DrawingLaws.{read-lines, not-read, read-texts, read-few, read-regions, step-room}
+use Rattle.drawings.proofs.DrawingLaws.{read-lines, not-read, read-texts, read-few, read-regions}
 use native.Mathlib.Omega.{arith}
 use borrow.Author.Needs.{needs}
 use Rattle.drawings.proofs.put_regions.Statement.{statement}
@@ -55,9 +55,12 @@ put-step-requires c κs =
     let m = c .before .before .before .before in
     let p = c .before .before .before .before .before .before .before .before .before .before in
     let q = c .before .before .before .before .before .before .before .before .before .before .before .before .before .before .before .before .before .before .before .before .before in
-    let e = q .before .before .before .before .before .before .before .before in (
+    let e = q .before .before .before .before .before .before .before .before in
+    let f = read-few _ _ _ (q .read-regions .ensures .1) (c .before .before .before .before .before .before .before .before .before .before .before .before .before .before .before .before .n .given .1) in (
       omega (arith, m .put-name .ensures .short, m .put-name .kept .0, p .put-regions .ensures .short, p .put-regions .kept .0, e .pre .0),
-      step-room (e .pre .3) (read-few _ _ _ (q .read-regions .ensures .1) (c .before .before .before .before .before .before .before .before .before .before .before .before .before .before .before .before .n .given .1)) (omega (arith, q .read-regions .kept .1 .1 .1 .1 .0)),
+      e .pre .3,
+      f,
+      omega (arith, q .read-regions .kept .1 .1 .1 .1 .0),
     )
 
 enum-known-r : tie.Need-enum-known-r

@@ -8,7 +8,7 @@ use Rattle.model.specs.Limits.{textBytes}
 use Rattle.cells.specs.Held.{Held}
 use Rattle.outline.specs.declared.Outline.{Outline}
 use Rattle.scan.specs.Canvas.{rowsAt}
-use Rattle.canvas.specs.Drawn.{outlineIn, LayersIn, Shown}
+use Rattle.canvas.specs.Drawn.{outlineIn, LayersIn, Shown, Room}
 use Rattle.canvas.specs.DrawnPlane.{planeRead, PlaneHeld}
 use Rattle.canvas.specs.Layers.{sheetOf}
 use Rattle.canvas.specs.declared.Drawing.{Drawing}
@@ -43,19 +43,23 @@ shown c = subst (λ (x : Drawing). LayersIn x (rowsAt (start c .args .s .now) 0)
 
 -- the plane that was read
 abbrev read : tie.After-known-told2 → tie.After-read-plane
-read c = c .before .before .before .before .before .before .before .before .before .before .before
+read c = c .before .before .before .before .before .before .before .before .before .before .before .before .before
+
+-- the plane that was refused
+abbrev stopped : tie.After-known-told3 → tie.After-read-plane
+stopped c = c .before .before .before .before .before .before .before .before .before .before .before .before .before
 
 abbrev sheet : tie.After-read-plane → tie.After-known-told
-sheet c = c .before .before .before .before .before .before .before .before
+sheet c = c .before .before .before .before .before .before .before .before .before
 
 abbrev bytes : tie.After-read-plane → List ℕ
-bytes c = c .read-plane .last .1 .1 .1 .1 .1 .1 .1 .0
+bytes c = c .read-plane .last .1 .1 .1 .1 .1 .1 .1 .1 .0
 
 abbrev spans : tie.After-read-plane → List ℕ
-spans c = c .read-plane .last .1 .1 .1 .1 .1 .1 .1 .1 .0
+spans c = c .read-plane .last .1 .1 .1 .1 .1 .1 .1 .1 .1 .0
 
 abbrev plane : tie.After-read-plane → List ℕ
-plane c = c .read-plane .last .1 .1 .1 .1 .1 .1 .1 .1 .1 .0
+plane c = c .read-plane .last .1 .1 .1 .1 .1 .1 .1 .1 .1 .1 .0
 
 held : (c : tie.After-known-told2) → Held (plane (read c)) (c .before .n .given .0 .0) (take textBytes (bytes (read c))) (spans (read c)) (c .before .n .given .0 .1 .0)
 held c = subst (λ (x : PlaneRead). PlaneHeld x (plane (read c)) (bytes (read c)) (spans (read c))) (c .before .n .given .1) (read c .read-plane .ensures .1)
@@ -68,10 +72,12 @@ enum-known-rows c = search needs
 
 read-plane-requires : tie.Need-read-plane-requires
 read-plane-requires c κs =
-    let k = c .before .before .before .before .before .before .before in
+    let k = c .before .before .before .before .before .before .before .before in
     let p = start k .pre in
     let l = drawn k .draw-sheet .kept in
-    plane-room (start k .args .s .now) (outline k) (told k) (shown k) (omega (arith, p .layers .text, l .1 .0)) (omega (arith, p .layers .thin, l .1 .1 .0)) (omega (arith, p .layers .grid, l .1 .1 .1 .1 .0)) (p .fourEach) (p .allTexts) (p .twoEach) (p .plane)
+    let r : Room (drawn k .draw-sheet .last .1 .0) (drawn k .draw-sheet .last .1 .1 .0) (drawn k .draw-sheet .last .1 .1 .1 .0) (drawn k .draw-sheet .last .1 .1 .1 .1 .0) =
+    record { text = omega (arith, p .layers .text, l .1 .0); thin = omega (arith, p .layers .thin, l .1 .1 .0); body = omega (arith, p .layers .body, l .1 .1 .1 .0); grid = omega (arith, p .layers .grid, l .1 .1 .1 .1 .0) } in
+    plane-room (start k .args .s .now) (outline k) (told k) (shown k) r (p .fourEach) (p .allTexts) (p .twoEach) (p .plane)
 
 enum-known-n : tie.Need-enum-known-n
 enum-known-n c = search needs
@@ -83,7 +89,7 @@ enum-known-r-2 : tie.Need-enum-known-r-2
 enum-known-r-2 c = search needs
 
 same-length : tie.Need-same-length
-same-length c = search needs
+same-length c = drawn (sheet (read c)) .draw-sheet .kept .1 .0
 
 same-length-2 : tie.Need-same-length-2
 same-length-2 c = search needs
@@ -114,7 +120,7 @@ returns c =
     (with-plane (start k .args .s .now) (outline k) (told k) (shown k) _ _ _ _ _ (held c) q, (held c, name-in (start k .args .s .now) (outline k) (told k) (shown k) _ _ _ _ _ (held c) q))
 
 same-length-9 : tie.Need-same-length-9
-same-length-9 c = search needs
+same-length-9 c = drawn (sheet (stopped c)) .draw-sheet .kept .1 .0
 
 same-length-10 : tie.Need-same-length-10
 same-length-10 c = search needs
@@ -139,7 +145,7 @@ same-length-16 c = search needs
 
 returns-2 : tie.Need-returns-2
 returns-2 c =
-    let m = c .before .before .before .before .before .before .before .before .before .before .before in
+    let m = stopped c in
     let k = sheet m in
     (no-plane (start k .args .s .now) (outline k) (told k) (shown k) _ (ap (λ (x : PlaneRead). planeRead x (plane m) (bytes m) (spans m)) (sym (c .before .r .given .1)) ∙ m .read-plane .ensures .0), tt)
 
