@@ -16,7 +16,7 @@ pub struct Answer {
 fn refusal_answer(r: Refusal) -> Answer
     ensures { λ x. ⌜ x ≡ refusalAnswer r ⌝ }
 {
-    let x = model::refusal_numbers(r);
+    let x = refusals::refusal_numbers(r);
     Answer {
         n: x.n,
         a: x.a,
@@ -73,7 +73,7 @@ pub fn split_numbers(s: Split) -> SplitAnswer
             to,
         },
         Split::NotSplit(r) => {
-            let x = model::refusal_numbers(r);
+            let x = refusals::refusal_numbers(r);
             SplitAnswer {
                 n: x.n,
                 a: x.a,

@@ -89,7 +89,7 @@ pub fn put_refusal(out: &mut [u8], at: usize, r: Refusal) -> usize
     requires { ⌜ at + 100 ≤ length (now out) ⌝ }
     ensures { λ e. ⌜ Written (now (out .entry)) (now (out .exit)) at (refusedLine (numbers r)) 100 e ⌝ }
 {
-    let x = model::refusal_numbers(r);
+    let x = refusals::refusal_numbers(r);
     put_three(out, at, b"refused ", x.n, x.a, x.b)
 }
 

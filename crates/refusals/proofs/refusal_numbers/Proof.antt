@@ -1,11 +1,11 @@
--- `model::refusal_numbers` meets its contract.
+-- `refusals::refusal_numbers` meets its contract.
 use mathlib.Core.Path.{_≡_, sym, ap, _∙_}
 use Rattle.model.specs.Refusals.{numbers}
 use Rattle.model.specs.declared.Refusal.{Refusal}
 use Rattle.model.specs.declared.Numbers.{Numbers}
 use borrow.Author.Needs.{needs}
-use Rattle.model.proofs.refusal_numbers.Statement.{statement}
-use Rattle.model.proofs.refusal_numbers.Tie as tie
+use Rattle.refusals.proofs.refusal_numbers.Statement.{statement}
+use Rattle.refusals.proofs.refusal_numbers.Tie as tie
 
 -- the numbers of a case, where the refusal is that case
 told : {x : Numbers} {r q : Refusal} → x ≡ numbers q → r ≡ q → x ≡ numbers r
