@@ -1,6 +1,2 @@
 -- Laws of the canvas.
 pub mod DrawingLaws
-pub mod RegionTextLaws
-pub mod DrawnPlaneLaws
-pub mod NameIsFirstRegion
-pub mod Examples

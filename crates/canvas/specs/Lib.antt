@@ -1,4 +1,2 @@
 pub mod Layers
 pub mod Drawn
-pub mod RegionTexts
-pub mod DrawnPlane

@@ -1,12 +1,9 @@
-// From the bytes of a sheet to its outline, its four layers, its regions with their texts, and its plane.
+// From the bytes of a sheet to its outline and its four layers.
 use model::Rect;
 use model::Refusal;
 use outline::Outline;
 use outline::Outlined;
-use regions::Counted;
 use scan::Scanned;
-use step::PlaneMade;
-use texts::Gathered;
 use utf8::Checked;
 ghost use mathlib.Core.Path.{_≡_};
 ghost use Prim.Native.Nat.{_≤_};
@@ -19,8 +16,6 @@ ghost use Rattle.layers.specs.Thin.{thinPicture};
 ghost use Rattle.scan.specs.Canvas.{rowsAt};
 ghost use Rattle.canvas.specs.Layers.{drawingOf, sheetOf};
 ghost use Rattle.canvas.specs.Drawn.{outlineIn, LayersIn, Ended, Room};
-ghost use Rattle.canvas.specs.DrawnPlane.{textPlaneOf, planeRead, PlaneHeld, PlaneRoom};
-ghost use Rattle.canvas.specs.RegionTexts.{regionTextsOf, regionsIn, UsedIn, RegionRoom};
 
 // The canvas's rows and columns, where the text behind the sheet starts, and the outline; or a refusal.
 pub enum Drawing {
@@ -94,77 +89,5 @@ pub fn draw_sheet(
     match utf8::validate(s) {
         Checked::Valid => draw(s, 0, text, thins, bodies, grid),
         Checked::Invalid(at) => Drawing::NotDrawn(Refusal::InvalidUtf8(at)),
-    }
-}
-
-// So many regions, whose texts have so many bytes; or a refusal.
-pub enum RegionsRead {
-    Read(usize, usize),
-    NotRead(Refusal),
-}
-
-// The regions of THIN with their texts on TEXT.
-pub fn read_regions(
-    text: &[u32],
-    thins: &[u32],
-    w: usize,
-    h: usize,
-    rects: &mut [u32],
-    bytes: &mut [u8],
-    spans: &mut [u32],
-) -> RegionsRead
-    requires { ⌜ RegionRoom w h (now text) (now thins) (now rects) (now bytes) (now spans) ⌝ }
-    ensures answer { λ r. ⌜ regionsIn r (now (rects .exit)) (now (bytes .exit)) (now (spans .exit)) ≡ regionTextsOf (canvas w h (now (text .entry))) (canvas w h (now (thins .entry))) w h ⌝ }
-    ensures used { λ r. ⌜ UsedIn r (now (bytes .exit)) (now (spans .exit)) ⌝ }
-{
-    match regions::regions(thins, w, h, rects) {
-        Counted::Regions(n) => match texts::gather(text, w, h, rects, n, bytes, spans) {
-            Gathered::Texts(used) => RegionsRead::Read(n, used),
-            Gathered::NotGathered(r) => RegionsRead::NotRead(r),
-        },
-        Counted::NotCounted(r) => RegionsRead::NotRead(r),
-    }
-}
-
-// So many rows of a plane, with so many regions; or a refusal.
-pub enum PlaneRead {
-    Rows(usize, usize),
-    NoPlane(Refusal),
-}
-
-// The plane of the layers of a drawing, and the texts of its regions. Once there is GRID, BODY is not needed: the numbers
-// of the frames go there.
-pub fn read_plane(
-    o: Outline,
-    text: &[u32],
-    thins: &[u32],
-    grid: &[u32],
-    bodies: &mut [u32],
-    w: usize,
-    h: usize,
-    rects: &mut [u32],
-    bytes: &mut [u8],
-    spans: &mut [u32],
-    plane: &mut [u32],
-) -> PlaneRead
-    requires { ⌜ PlaneRoom w h (now text) (now thins) (now grid) (now bodies) (now rects) (now bytes) (now spans) (now plane) ⌝ }
-    ensures answer { λ r. ⌜ planeRead r (now (plane .exit)) (now (bytes .exit)) (now (spans .exit)) ≡ textPlaneOf o (canvas w h (now (text .entry))) (canvas w h (now (thins .entry))) (canvas w h (now (grid .entry))) w h ⌝ }
-    ensures held { λ r. ⌜ PlaneHeld r (now (plane .exit)) (now (bytes .exit)) (now (spans .exit)) ⌝ }
-{
-    match read_regions(text, thins, w, h, rects, bytes, spans) {
-        RegionsRead::Read(count, _) => match step::make_plane(
-            o,
-            grid,
-            w,
-            h,
-            rects,
-            count,
-            bodies,
-            plane,
-        ) {
-            PlaneMade::Made(n) => PlaneRead::Rows(n, count),
-            PlaneMade::NotMade(r) => PlaneRead::NoPlane(r),
-        },
-        RegionsRead::NotRead(r) => PlaneRead::NoPlane(r),
     }
 }

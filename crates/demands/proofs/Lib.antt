@@ -3,4 +3,5 @@ pub mod Recorded
 pub mod SamePolicySameRecord
 pub mod TurnedColumnSheet
 pub mod Examples
+pub mod CanvasLimits
 pub mod Sheets

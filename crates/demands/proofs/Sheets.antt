@@ -42,9 +42,9 @@ use Rattle.regions.specs.Regions.{regionsBy}
 use Rattle.lookup.specs.Lookup.{regionFrom}
 use Rattle.step.specs.PlaneStep.{planeBy}
 use Rattle.texts.specs.RegionText.{behind, textOf, packed, textsOf}
-use Rattle.canvas.specs.DrawnPlane.{textPlaneBy}
+use Rattle.text_planes.specs.DrawnPlane.{textPlaneBy}
 use Rattle.canvas.specs.Layers.{drawingBy, sheetBy}
-use Rattle.canvas.specs.RegionTexts.{regionTextsBy}
+use Rattle.text_planes.specs.RegionTexts.{regionTextsBy}
 use Rattle.policies.specs.DrawnPolicy.{policyBy, walkedPolicy}
 use Rattle.model.specs.declared.HitPolicy.the-variants.{Unique}
 use Rattle.model.specs.declared.Orientation.the-variants.{RulesAsRows}

@@ -21,11 +21,11 @@ use Rattle.utf8.specs.declared.Checked.{Checked}
 use Rattle.utf8.specs.declared.Checked.the-variants.{Valid, Invalid}
 use Rattle.canvas.specs.Layers.{drawingBy, drawingOf, sheetBy, sheetOf}
 use Rattle.canvas.specs.Drawn.{outlineIn, LayersIn, Shown}
-use Rattle.canvas.specs.RegionTexts.{Regions as Shape, regionTextsOf, regionsIn, UsedIn}
+use Rattle.text_planes.specs.RegionTexts.{Regions as Shape, regionTextsOf, regionsIn, UsedIn}
 use Rattle.canvas.specs.declared.Drawing.{Drawing}
 use Rattle.canvas.specs.declared.Drawing.the-variants.{Drawn, NotDrawn}
-use Rattle.canvas.specs.declared.RegionsRead.{RegionsRead}
-use Rattle.canvas.specs.declared.RegionsRead.the-variants.{Read, NotRead}
+use Rattle.text_planes.specs.declared.RegionsRead.{RegionsRead}
+use Rattle.text_planes.specs.declared.RegionsRead.the-variants.{Read, NotRead}
 use Rattle.cells.specs.Plane.{Plane, planeIn, PlaneFits}
 use Rattle.cells.specs.Spans.{textsIn}
 use Rattle.regions.specs.Rects.{rectsOf}

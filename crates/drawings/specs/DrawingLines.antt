@@ -10,7 +10,7 @@ use Rattle.outline.specs.declared.Outline.{Outline}
 use Rattle.scan.specs.Canvas.{rowsAt}
 use Rattle.scan.specs.Rows.{widest}
 use Rattle.canvas.specs.Layers.{textLayer, thinLayer, bodyLayer, gridLayer, sheetOf}
-use Rattle.canvas.specs.RegionTexts.{Regions, regionTextsOf}
+use Rattle.text_planes.specs.RegionTexts.{Regions, regionTextsOf}
 use Rattle.step.specs.PlaneStep.{planeOf}
 use Rattle.print.specs.Lines.{refusedLine}
 use Rattle.sketch.specs.Drawings.{layersLines, countedLines, nameLine}

@@ -1,6 +1,6 @@
 // What is printed for a sheet, as the judge of the Rust prints it.
 use canvas::Drawing;
-use canvas::RegionsRead;
+use text_planes::RegionsRead;
 use model::limits::CANVAS_SIZE;
 use outline::Outline;
 use step::PlaneMade;
@@ -10,7 +10,7 @@ ghost use Rattle.lists.specs.Picture.{canvas};
 ghost use Rattle.model.specs.Limits.{regionCount};
 ghost use Rattle.regions.specs.Rects.{rectsOf};
 ghost use Rattle.step.specs.PlaneStep.{planeOf};
-ghost use Rattle.canvas.specs.RegionTexts.{regionTextsOf};
+ghost use Rattle.text_planes.specs.RegionTexts.{regionTextsOf};
 ghost use Rattle.print.specs.Decimal.{Written};
 ghost use Rattle.sketch.specs.Drawings.{Layer};
 ghost use Rattle.sketch.specs.Planes.{planeBytes};
@@ -56,7 +56,7 @@ fn put_regions(
     let mut rects = [0u32; 4096];
     let mut bytes = [0u8; 61444];
     let mut spans = [0u32; 2048];
-    match canvas::read_regions(text, thins, w, h, &mut rects, &mut bytes, &mut spans) {
+    match text_planes::read_regions(text, thins, w, h, &mut rects, &mut bytes, &mut spans) {
         RegionsRead::Read(n, _) => {
             let a = sketch::put_regions(out, at, &rects, &bytes, &spans, n);
             let b = sketch::put_name(out, a, &bytes, &spans, n, o.named);

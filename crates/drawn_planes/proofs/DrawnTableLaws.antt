@@ -32,9 +32,9 @@ use Rattle.texts.proofs.TextsLaws.{texts-are}
 use Rattle.walks.specs.Frame.{frameOf}
 use Rattle.walks.specs.Kinds as kind
 use Rattle.canvas.specs.Drawn.{Shown, Room}
-use Rattle.canvas.specs.DrawnPlane.{textPlaneOf, PlaneRoom}
+use Rattle.text_planes.specs.DrawnPlane.{textPlaneOf, PlaneRoom}
 use Rattle.canvas.specs.Layers.{textLayer, drawingOf, sheetOf}
-use Rattle.canvas.proofs.NameIsFirstRegion.{name-is-first-region}
+use Rattle.text_planes.proofs.NameIsFirstRegion.{name-is-first-region}
 use Rattle.recognizer.specs.StatedPolicy.{statedPolicy}
 use Rattle.tables.specs.NamedTable.{nameOf, NameIn}
 use Rattle.policies.specs.DrawnPolicy.{drawnPlaneBy, nameBy, policyBy, walkedPolicy}

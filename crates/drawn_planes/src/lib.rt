@@ -1,6 +1,6 @@
 // The plane of a drawing.
 use canvas::Drawing;
-use canvas::PlaneRead;
+use text_planes::PlaneRead;
 use model::Refusal;
 ghost use mathlib.Core.Path.{_≡_};
 ghost use Rattle.drawn_planes.specs.DrawnTable.{namedPlane, drawnIn, DrawnHeld, DrawnRoom};
@@ -28,7 +28,7 @@ pub fn drawn_plane(
     ensures held { λ r. ⌜ DrawnHeld r (now (plane .exit)) (now (bytes .exit)) (now (spans .exit)) ⌝ }
 {
     match canvas::draw_sheet(s, text, thins, bodies, grid) {
-        Drawing::Drawn(rows, columns, _, o) => match canvas::read_plane(
+        Drawing::Drawn(rows, columns, _, o) => match text_planes::read_plane(
             o,
             text,
             thins,

@@ -32,10 +32,10 @@ use Rattle.texts.specs.RegionText.{textOf, packed, textsOf}
 use Rattle.texts.proofs.TextsLaws.{texts-are, texts-fit}
 use Rattle.walks.specs.Frame.{FrameFinder, frameOf}
 use Rattle.walks.specs.Kinds as kind
-use Rattle.canvas.specs.DrawnPlane.{textPlaneBy}
+use Rattle.text_planes.specs.DrawnPlane.{textPlaneBy}
 use Rattle.canvas.specs.Layers.{textLayer, thinLayer, gridLayer}
-use Rattle.canvas.specs.RegionTexts.{Regions, regionTextsBy}
-use Rattle.canvas.proofs.NameIsFirstRegion.{name-is-first-region}
+use Rattle.text_planes.specs.RegionTexts.{Regions, regionTextsBy}
+use Rattle.text_planes.proofs.NameIsFirstRegion.{name-is-first-region}
 use Rattle.policies.specs.DrawnPolicy.{drawnPlaneBy, nameBy}
 use Rattle.policies.proofs.SpelledShort.{Short}
 use Rattle.policies.proofs.UprightWithin.{Within, PlaneWithin}

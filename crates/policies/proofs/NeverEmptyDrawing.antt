@@ -35,9 +35,9 @@ use Rattle.walks.specs.Kinds as kind
 use Rattle.walks.specs.Sides.{given, frameAt, bySides}
 use Rattle.walks.specs.Walk.{walkFrom, goOf}
 use Rattle.walks.specs.declared.Direction.the-variants.{Right, Down, Left, Up}
-use Rattle.canvas.specs.DrawnPlane.{textPlaneBy}
+use Rattle.text_planes.specs.DrawnPlane.{textPlaneBy}
 use Rattle.canvas.specs.Layers.{textLayer, thinLayer, gridLayer, drawingBy, sheetBy}
-use Rattle.canvas.specs.RegionTexts.{regionTextsBy}
+use Rattle.text_planes.specs.RegionTexts.{regionTextsBy}
 use Rattle.policies.specs.DrawnPolicy.{drawnPlaneBy, nameBy}
 use Rattle.policies.proofs.NeverLaws.{Never, never-then, never-if, never-each}
 

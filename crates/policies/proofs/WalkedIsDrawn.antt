@@ -34,9 +34,9 @@ use Rattle.walks.specs.Kinds as kind
 use Rattle.walks.specs.Sides.{bySides}
 use Rattle.walks.proofs.FrameLaws.{thin-sound, grid-sound, name-sound}
 use Rattle.walks.proofs.SidesLaws.{walks-sides, sides-walks}
-use Rattle.canvas.specs.DrawnPlane.{textPlaneBy}
+use Rattle.text_planes.specs.DrawnPlane.{textPlaneBy}
 use Rattle.canvas.specs.Layers.{textLayer, thinLayer, gridLayer, drawingBy, sheetBy}
-use Rattle.canvas.specs.RegionTexts.{Regions, regionTextsBy}
+use Rattle.text_planes.specs.RegionTexts.{Regions, regionTextsBy}
 use Rattle.recognizer.specs.StatedPolicy.{statedPolicy}
 use Rattle.policies.specs.DrawnPolicy.{drawnPlaneBy, nameBy, policyBy, walkedPolicy, drawnPolicy}
 use Rattle.policies.specs.LentPolicy.{textIn}

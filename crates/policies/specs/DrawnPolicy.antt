@@ -15,7 +15,7 @@ use Rattle.texts.specs.RegionText.{textOf}
 use Rattle.walks.specs.Frame.{FrameFinder, frameOf}
 use Rattle.walks.specs.Kinds as kind
 use Rattle.walks.specs.Sides.{bySides}
-use Rattle.canvas.specs.DrawnPlane.{textPlaneBy}
+use Rattle.text_planes.specs.DrawnPlane.{textPlaneBy}
 use Rattle.canvas.specs.Layers.{textLayer, thinLayer, gridLayer, sheetBy}
 use Rattle.recognizer.specs.StatedPolicy.{statedPolicy}
 use Rattle.policies.specs.LentPolicy.{textIn}

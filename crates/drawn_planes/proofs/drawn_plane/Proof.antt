@@ -9,10 +9,10 @@ use Rattle.cells.specs.Held.{Held}
 use Rattle.outline.specs.declared.Outline.{Outline}
 use Rattle.scan.specs.Canvas.{rowsAt}
 use Rattle.canvas.specs.Drawn.{outlineIn, LayersIn, Shown, Room}
-use Rattle.canvas.specs.DrawnPlane.{planeRead, PlaneHeld}
+use Rattle.text_planes.specs.DrawnPlane.{planeRead, PlaneHeld}
 use Rattle.canvas.specs.Layers.{sheetOf}
 use Rattle.canvas.specs.declared.Drawing.{Drawing}
-use Rattle.canvas.specs.declared.PlaneRead.{PlaneRead}
+use Rattle.text_planes.specs.declared.PlaneRead.{PlaneRead}
 use Rattle.drawn_planes.proofs.DrawnTableLaws.{plane-room, no-plane, with-plane, name-in, not-drawn}
 use native.Mathlib.Omega.{arith}
 use borrow.Author.Needs.{needs}

@@ -8,7 +8,7 @@ use Rattle.model.specs.declared.Rect.{Rect}
 use Rattle.model.specs.declared.Refusal.{Refusal}
 use Rattle.regions.specs.Regions.{regionsOf}
 use Rattle.texts.specs.RegionText.{textsOf}
-use Rattle.canvas.specs.RegionTexts.{regionTextsBy, regionTextsOf}
+use Rattle.text_planes.specs.RegionTexts.{regionTextsBy, regionTextsOf}
 
 module _ (p q : Picture) (w h : ℕ) where
   pub not-counted : (r : Refusal) → refused r ≡ regionsOf q w h → refused r ≡ regionTextsOf p q w h

@@ -19,9 +19,9 @@ use Rattle.step.specs.PlaneStep.{planeOf}
 use Rattle.step.proofs.RegionsAmong.{plane-among}
 use Rattle.walks.specs.Frame.{frameOf}
 use Rattle.walks.specs.Kinds as kind
-use Rattle.canvas.specs.DrawnPlane.{textPlaneBy, textPlaneOf}
-use Rattle.canvas.specs.RegionTexts.{Regions, regionTextsOf, UsedIn}
-use Rattle.canvas.specs.declared.RegionsRead.the-variants.{Read}
+use Rattle.text_planes.specs.DrawnPlane.{textPlaneBy, textPlaneOf}
+use Rattle.text_planes.specs.RegionTexts.{Regions, regionTextsOf, UsedIn}
+use Rattle.text_planes.specs.declared.RegionsRead.the-variants.{Read}
 
 module _ (o : Outline) (text thin grid : Picture) (w h : ℕ) where
   pub no-regions : (r : Refusal) → refused r ≡ regionTextsOf text thin w h → refused r ≡ textPlaneOf o text thin grid w h

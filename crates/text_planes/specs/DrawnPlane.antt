@@ -14,9 +14,9 @@ use Rattle.regions.specs.Rects.{Layer}
 use Rattle.step.specs.PlaneStep.{planeBy}
 use Rattle.walks.specs.Frame.{FrameFinder, frameOf}
 use Rattle.walks.specs.Kinds as kind
-use Rattle.canvas.specs.RegionTexts.{regionTextsBy, RegionRoom}
-use Rattle.canvas.specs.declared.PlaneRead.{PlaneRead}
-use Rattle.canvas.specs.declared.PlaneRead.the-variants.{Rows, NoPlane}
+use Rattle.text_planes.specs.RegionTexts.{regionTextsBy, RegionRoom}
+use Rattle.text_planes.specs.declared.PlaneRead.{PlaneRead}
+use Rattle.text_planes.specs.declared.PlaneRead.the-variants.{Rows, NoPlane}
 
 -- the regions of THIN and their texts on TEXT, then the plane of GRID: the texts are counted (7) before the plane is made
 unfoldable pub textPlaneBy : FrameFinder → Outline → Picture → Picture → Picture → ℕ → ℕ → Reading TextPlane

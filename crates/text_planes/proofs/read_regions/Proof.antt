@@ -1,4 +1,4 @@
--- `canvas::read_regions` meets its contract.
+-- `text_planes::read_regions` meets its contract.
 use mathlib.Core.List.{List}
 use mathlib.Core.Path.{_≡_, sym, ap, subst, _∙_}
 use Prim.Native.Nat.{ℕ, _≤_}
@@ -11,11 +11,11 @@ use Rattle.regions.specs.declared.Counted.the-variants.{Regions}
 use Rattle.regions.proofs.InsideLaws.{regions-inside, regions-few}
 use Rattle.texts.specs.Spans.{gatheredIn, SpansIn}
 use Rattle.texts.specs.declared.Gathered.{Gathered}
-use Rattle.canvas.proofs.RegionTextLaws.{not-counted, not-gathered, gathered}
+use Rattle.text_planes.proofs.RegionTextLaws.{not-counted, not-gathered, gathered}
 use native.Mathlib.Omega.{arith}
 use borrow.Author.Needs.{needs}
-use Rattle.canvas.proofs.read_regions.Statement.{statement}
-use Rattle.canvas.proofs.read_regions.Tie as tie
+use Rattle.text_planes.proofs.read_regions.Statement.{statement}
+use Rattle.text_planes.proofs.read_regions.Tie as tie
 
 -- the walks of the regions and the function's entry, by their places
 abbrev start : tie.After-regions → tie.Start

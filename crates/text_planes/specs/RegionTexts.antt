@@ -15,8 +15,8 @@ use Rattle.walks.specs.Kinds.{thin}
 use Rattle.cells.specs.Spans.{textsIn}
 use Rattle.texts.specs.Spans.{SpansIn}
 use Rattle.texts.specs.declared.Gathered.the-variants.{Texts}
-use Rattle.canvas.specs.declared.RegionsRead.{RegionsRead}
-use Rattle.canvas.specs.declared.RegionsRead.the-variants.{Read, NotRead}
+use Rattle.text_planes.specs.declared.RegionsRead.{RegionsRead}
+use Rattle.text_planes.specs.declared.RegionsRead.the-variants.{Read, NotRead}
 
 pub record Regions : Type 0 where
   pub rects : List Rect

@@ -1,4 +1,4 @@
--- `canvas::read_plane` meets its contract.
+-- `text_planes::read_plane` meets its contract.
 use mathlib.Core.Path.{_≡_, sym, ap, _∙_, subst}
 use mathlib.Core.List.{List}
 use Prim.Native.Nat.{ℕ}
@@ -8,14 +8,14 @@ use Rattle.cells.specs.Spans.{textsIn}
 use Rattle.regions.specs.Rects.{rectsOf}
 use Rattle.step.specs.Made.{planeMade, MadeFits}
 use Rattle.step.specs.declared.PlaneMade.{PlaneMade}
-use Rattle.canvas.specs.RegionTexts.{Regions, regionTextsOf, regionsIn, UsedIn}
-use Rattle.canvas.specs.declared.RegionsRead.{RegionsRead}
-use Rattle.canvas.specs.declared.RegionsRead.the-variants.{Read}
-use Rattle.canvas.proofs.DrawnPlaneLaws.{no-regions, no-plane, with-plane, plane-held}
+use Rattle.text_planes.specs.RegionTexts.{Regions, regionTextsOf, regionsIn, UsedIn}
+use Rattle.text_planes.specs.declared.RegionsRead.{RegionsRead}
+use Rattle.text_planes.specs.declared.RegionsRead.the-variants.{Read}
+use Rattle.text_planes.proofs.DrawnPlaneLaws.{no-regions, no-plane, with-plane, plane-held}
 use native.Mathlib.Omega.{arith}
 use borrow.Author.Needs.{needs}
-use Rattle.canvas.proofs.read_plane.Statement.{statement}
-use Rattle.canvas.proofs.read_plane.Tie as tie
+use Rattle.text_planes.proofs.read_plane.Statement.{statement}
+use Rattle.text_planes.proofs.read_plane.Tie as tie
 
 -- the regions that were read, by their places
 abbrev read : tie.After-known-told → tie.After-read-regions
