@@ -1,9 +1,12 @@
 // Walks along the lines of a drawing, each kind with its own characters.
 pub mod corners;
 pub mod double_lines;
+pub mod sets;
 
 use corners::*;
 use double_lines::*;
+use sets::*;
+use model::box_drawing::*;
 use walks::Direction;
 use walks::Walked;
 ghost use mathlib.Core.Path.{_≡_};
@@ -58,10 +61,10 @@ fn along_region(d: Direction, layer: &[u32], w: usize, h: usize, x: usize, y: us
     ensures { λ r. ⌜ stepsIn r ≡ alongOf Region d (canvas w h (now (layer .entry))) w h x y ⌝ }
 {
     match d {
-        Direction::Right => walks::go(d, layer, w, h, x, y, &CORNERS_TOP_RIGHT, &SIDES_TOP),
-        Direction::Down => walks::go(d, layer, w, h, x, y, &CORNERS_BOTTOM_RIGHT, &SIDES_RIGHT),
-        Direction::Left => walks::go(d, layer, w, h, x, y, &CORNERS_BOTTOM_LEFT, &SIDES_BOTTOM),
-        Direction::Up => walks::go(d, layer, w, h, x, y, &CORNERS_TOP_LEFT, &SIDES_LEFT),
+        Direction::Right => walks::go_light(d, layer, w, h, x, y, SET_TOP_RIGHT, LIGHT_DOWN_AND_LEFT, SET_TOP),
+        Direction::Down => walks::go_light(d, layer, w, h, x, y, SET_BOTTOM_RIGHT, LIGHT_UP_AND_LEFT, SET_RIGHT),
+        Direction::Left => walks::go_light(d, layer, w, h, x, y, SET_BOTTOM_LEFT, LIGHT_UP_AND_RIGHT, SET_BOTTOM),
+        Direction::Up => walks::go_light(d, layer, w, h, x, y, SET_TOP_LEFT, LIGHT_DOWN_AND_RIGHT, SET_LEFT),
     }
 }
 
@@ -71,10 +74,10 @@ fn along_rectangle(d: Direction, layer: &[u32], w: usize, h: usize, x: usize, y:
     ensures { λ r. ⌜ stepsIn r ≡ alongOf Rectangle d (canvas w h (now (layer .entry))) w h x y ⌝ }
 {
     match d {
-        Direction::Right => walks::go(d, layer, w, h, x, y, &GRID_TOP_RIGHT, &ROW_SIDE),
-        Direction::Down => walks::go(d, layer, w, h, x, y, &GRID_BOTTOM_RIGHT, &COLUMN_SIDE),
-        Direction::Left => walks::go(d, layer, w, h, x, y, &GRID_BOTTOM_LEFT, &ROW_SIDE),
-        Direction::Up => walks::go(d, layer, w, h, x, y, &GRID_TOP_LEFT, &COLUMN_SIDE),
+        Direction::Right => walks::go_light(d, layer, w, h, x, y, SET_TOP_RIGHT, LIGHT_VERTICAL_AND_HORIZONTAL, SET_ROW),
+        Direction::Down => walks::go_light(d, layer, w, h, x, y, SET_BOTTOM_RIGHT, LIGHT_VERTICAL_AND_HORIZONTAL, SET_COLUMN),
+        Direction::Left => walks::go_light(d, layer, w, h, x, y, SET_BOTTOM_LEFT, LIGHT_VERTICAL_AND_HORIZONTAL, SET_ROW),
+        Direction::Up => walks::go_light(d, layer, w, h, x, y, SET_TOP_LEFT, LIGHT_VERTICAL_AND_HORIZONTAL, SET_COLUMN),
     }
 }
 
