@@ -2,11 +2,10 @@
 use mathlib.Core.Path.{_≡_, refl, sym, ap, _∙_}
 use mathlib.Core.Bool.{Bool, true, false, _&&_, Bool·beq}
 use mathlib.Core.List.{List, [], _∷_}
-use Prim.Native.Nat.{ℕ, _≤_, _<_}
-use native.Mathlib.Omega.{arith}
+use Prim.Native.Nat.{ℕ, _-_, _/_, _%_, _^_, _≤_, _<_}
 use lib.Dec.{eqb, leb, ltb}
 use lib.ListN.{getD}
-use borrow.Author.Tests.{ne-eqb, eqb-true, leb-true, ltb-true}
+use borrow.Author.Tests.{ne-eqb, eqb-true, leb-true, ltb-true, lt-ltb, le-ltb, le-leb, lt-leb}
 use Rattle.lists.specs.OneOf.{oneOf}
 use Rattle.lists.proofs.OneOfLaws.{allKeys}
 use Rattle.lists.proofs.Tests.{by-flag, true-false, both}
@@ -35,6 +34,17 @@ listed-out [] c e o = refl
 listed-out (k ∷ ks) c e o =
     let b = both (light k) (allKeys light ks) e in
     rw (ne-eqb c k (λ q. true-false (b .0) (ap light (sym q) ∙ o))) (listed-out ks c (b .1) o)
+
+-- which characters are out, and what is held of the others
+pub held-below : (set c : ℕ) → c < 0x2500 → holds set c ≡ false
+held-below set c h = held-out set c (rw (lt-leb 0x2500 c h))
+
+pub held-above : (set c : ℕ) → 0x2500 ≤ c → 0x2540 ≤ c → holds set c ≡ false
+held-above set c l h = held-out set c (rw (le-leb 0x2500 c l, le-ltb c 0x2540 h))
+
+pub held-in : (set c : ℕ) → 0x2500 ≤ c → c < 0x2540 → holds set c ≡ eqb (set / 2 ^ (c - 0x2500) % 2) 1
+unfolding holds
+held-in set c l h = rw (le-leb 0x2500 c l, lt-ltb c 0x2540 h)
 
 pub set-of : (set : ℕ) (codes : List ℕ) → setb set codes ≡ true → SetOf set codes
 set-of set codes e c =
