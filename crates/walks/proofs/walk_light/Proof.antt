@@ -115,12 +115,11 @@ loop-again c =
       omega (arith, n .before .loop-test .taken),
       (
         here n,
-        λ ss aa e.
-            (
-              sym (turn-on (line (entry n)) ss aa (l .k) (entry n .args .count) (n .before .loop-test .taken) (told n (entry n .args .searched) ss (e .ends) s (c .before .before .if2 .left)) (told n (entry n .args .allowed) aa (e .passes) a (not-false _ (c .if3 .left))))
-                  ∙ l .inv .1 .1 ss aa e .0,
-              λ h. (sym (e .ends at) ∙ sym s ∙ c .before .before .if2 .left, sym (e .passes at) ∙ sym a ∙ not-false _ (c .if3 .left)),
-            ),
+        λ ss aa e. (
+          sym (turn-on (line (entry n)) ss aa (l .k) (entry n .args .count) (n .before .loop-test .taken) (told n (entry n .args .searched) ss (e .ends) s (c .before .before .if2 .left)) (told n (entry n .args .allowed) aa (e .passes) a (not-false _ (c .if3 .left))))
+              ∙ l .inv .1 .1 ss aa e .0,
+          λ h. (sym (e .ends at) ∙ sym s ∙ c .before .before .if2 .left, sym (e .passes at) ∙ sym a ∙ not-false _ (c .if3 .left)),
+        ),
       ),
     )
 
@@ -136,8 +135,7 @@ loop-again-2 c =
       (
         here n,
         λ ss aa e.
-            let i = l .inv .1 .1 ss aa e in
-            (
+            let i = l .inv .1 .1 ss aa e in (
               sym (turn-same (line (entry n)) ss aa (l .k) (entry n .args .count) (n .before .loop-test .taken) (l .kept) (i .1) (q ∙ c .if1 .left) (rw q (omega (arith, c .before .shared-slice-known2 .given (n .next .result)))))
                   ∙ i .0,
               i .1,
