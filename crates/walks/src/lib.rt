@@ -60,16 +60,6 @@ fn next(back: bool, p: usize, step: usize) -> usize
     if back { p - step } else { p + step }
 }
 
-// Whether a character is one of some: four, as most corners have, are compared at once.
-fn among(codes: &[u32], code: u32) -> bool
-    ensures { λ r. ⌜ r ≡ oneOf code (now (codes .entry)) ⌝ }
-{
-    if codes.len() == 4 {
-        return (code == codes[0]) | (code == codes[1]) | (code == codes[2]) | (code == codes[3]);
-    }
-    one_of(codes, code)
-}
-
 // More than any character.
 const NO_CHARACTER: u64 = 0x1_0000_0000;
 
@@ -95,7 +85,7 @@ fn walk_line(
         k += 1;
         let code = layer[p];
         if code as u64 != kept {
-            if among(searched, code) {
+            if one_of(searched, code) {
                 return Walked::Steps(k);
             }
             if !one_of(allowed, code) {
