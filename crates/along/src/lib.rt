@@ -4,8 +4,10 @@ pub mod double_lines;
 
 use corners::*;
 use double_lines::*;
+use model::box_drawing::*;
 use walks::Direction;
 use walks::Walked;
+use walks::go_light;
 ghost use mathlib.Core.Path.{_≡_};
 ghost use lib.ListN.{length};
 ghost use Rattle.lists.specs.Picture.{canvas};
@@ -52,16 +54,26 @@ fn go_toward(
     }
 }
 
-// Along the frames of THIN.
+// Along the frames of THIN; the plain corner is searched first.
 fn along_region(d: Direction, layer: &[u32], w: usize, h: usize, x: usize, y: usize) -> Walked
     requires { ⌜ Place w h x y (length (now layer)) ⌝ }
     ensures { λ r. ⌜ stepsIn r ≡ alongOf Region d (canvas w h (now (layer .entry))) w h x y ⌝ }
 {
     match d {
-        Direction::Right => walks::go(d, layer, w, h, x, y, &CORNERS_TOP_RIGHT, &SIDES_TOP),
-        Direction::Down => walks::go(d, layer, w, h, x, y, &CORNERS_BOTTOM_RIGHT, &SIDES_RIGHT),
-        Direction::Left => walks::go(d, layer, w, h, x, y, &CORNERS_BOTTOM_LEFT, &SIDES_BOTTOM),
-        Direction::Up => walks::go(d, layer, w, h, x, y, &CORNERS_TOP_LEFT, &SIDES_LEFT),
+        Direction::Right => go_light(d, layer, w, h, x, y, TOP_RIGHT, LIGHT_DOWN_AND_LEFT, TOP),
+        Direction::Down => go_light(d, layer, w, h, x, y, BOTTOM_RIGHT, LIGHT_UP_AND_LEFT, RIGHT),
+        Direction::Left => go_light(
+            d,
+            layer,
+            w,
+            h,
+            x,
+            y,
+            BOTTOM_LEFT,
+            LIGHT_UP_AND_RIGHT,
+            BOTTOM,
+        ),
+        Direction::Up => go_light(d, layer, w, h, x, y, TOP_LEFT, LIGHT_DOWN_AND_RIGHT, LEFT),
     }
 }
 
@@ -71,10 +83,10 @@ fn along_rectangle(d: Direction, layer: &[u32], w: usize, h: usize, x: usize, y:
     ensures { λ r. ⌜ stepsIn r ≡ alongOf Rectangle d (canvas w h (now (layer .entry))) w h x y ⌝ }
 {
     match d {
-        Direction::Right => walks::go(d, layer, w, h, x, y, &GRID_TOP_RIGHT, &ROW_SIDE),
-        Direction::Down => walks::go(d, layer, w, h, x, y, &GRID_BOTTOM_RIGHT, &COLUMN_SIDE),
-        Direction::Left => walks::go(d, layer, w, h, x, y, &GRID_BOTTOM_LEFT, &ROW_SIDE),
-        Direction::Up => walks::go(d, layer, w, h, x, y, &GRID_TOP_LEFT, &COLUMN_SIDE),
+        Direction::Right => go_light(d, layer, w, h, x, y, TOP_RIGHT, GRID_FIRST, GRID_ROW),
+        Direction::Down => go_light(d, layer, w, h, x, y, BOTTOM_RIGHT, GRID_FIRST, GRID_COLUMN),
+        Direction::Left => go_light(d, layer, w, h, x, y, BOTTOM_LEFT, GRID_FIRST, GRID_ROW),
+        Direction::Up => go_light(d, layer, w, h, x, y, TOP_LEFT, GRID_FIRST, GRID_COLUMN),
     }
 }
 

@@ -4,3 +4,4 @@ pub mod LineLaws
 pub mod FrameLaws
 pub mod Examples
 pub mod SidesLaws
+pub mod SetLaws

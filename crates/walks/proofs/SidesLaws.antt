@@ -24,7 +24,7 @@ and-true {a} {b} p q = rw (p, q)
 none-some : {A B : Type 0} {a : A} → _≡_ {A = Option A} none (some a) → B
 none-some e = let z : _≡_ {A = ℕ} 0 1 = cc in absurd (omega arith)
 
-all-true : (f : ℕ → Bool) (k n : ℕ) → allFrom f k n ≡ true → (i : ℕ) → k ≤ i → i < k + n → f i ≡ true
+pub all-true : (f : ℕ → Bool) (k n : ℕ) → allFrom f k n ≡ true → (i : ℕ) → k ≤ i → i < k + n → f i ≡ true
 unfolding allFrom
 all-true f k zero e i p q = absurd (omega arith)
 all-true f k (suc n) e i p q =

@@ -3,3 +3,4 @@ pub mod Frame
 pub mod Kinds
 pub mod Line
 pub mod Sides
+pub mod Sets

@@ -2,12 +2,14 @@
 use model::Rect;
 use model::Refusal;
 ghost use mathlib.Core.Path.{_≡_};
-ghost use Prim.Native.Nat.{_+_, _<_, _^_};
+ghost use mathlib.Core.List.{List};
+ghost use Prim.Native.Nat.{ℕ, _+_, _<_, _^_};
 ghost use lib.ListN.{length, getD};
 ghost use Rattle.lists.specs.OneOf.{oneOf};
 ghost use Rattle.lists.specs.Picture.{canvas};
 ghost use Rattle.walks.specs.Walk.{walkOf, ahead, goOf, stepsIn};
 ghost use Rattle.walks.specs.Frame.{Place};
+ghost use Rattle.walks.specs.Sets.{holds, SetsOf};
 ghost use Rattle.walks.specs.Line.{backOf, stepOf, lineOf, Reach, nextOf, NextFits};
 
 pub enum Direction {
@@ -58,16 +60,6 @@ fn next(back: bool, p: usize, step: usize) -> usize
     if back { p - step } else { p + step }
 }
 
-// Whether a character is one of some: four, as most corners have, are compared at once.
-fn among(codes: &[u32], code: u32) -> bool
-    ensures { λ r. ⌜ r ≡ oneOf code (now (codes .entry)) ⌝ }
-{
-    if codes.len() == 4 {
-        return (code == codes[0]) | (code == codes[1]) | (code == codes[2]) | (code == codes[3]);
-    }
-    one_of(codes, code)
-}
-
 // More than any character.
 const NO_CHARACTER: u64 = 0x1_0000_0000;
 
@@ -93,7 +85,7 @@ fn walk_line(
         k += 1;
         let code = layer[p];
         if code as u64 != kept {
-            if among(searched, code) {
+            if one_of(searched, code) {
                 return Walked::Steps(k);
             }
             if !one_of(allowed, code) {
@@ -103,6 +95,57 @@ fn walk_line(
         }
     }
     Walked::Stopped(Refusal::CharactersNotFound(first(searched)))
+}
+
+// The first character that a set can have.
+const FIRST_LIGHT: u32 = 0x2500;
+
+// Whether a set of light characters has a character.
+fn holds(set: u64, code: u32) -> bool
+    ensures { λ r. ⌜ r ≡ holds set code ⌝ }
+{
+    if code < FIRST_LIGHT {
+        return false;
+    }
+    let k = code - FIRST_LIGHT;
+    if 64 <= k {
+        return false;
+    }
+    (set >> k) % 2 == 1
+}
+
+// As `walk_line`, with the characters as sets and the first searched one by itself.
+fn walk_light(
+    layer: &[u32],
+    back: bool,
+    at: usize,
+    step: usize,
+    count: usize,
+    searched: u64,
+    wanted: u32,
+    allowed: u64,
+) -> Walked
+    requires { ⌜ Reach back at step count (length (now layer)) ⌝ }
+    ensures { λ r. ⌜ ((s a : List ℕ) → SetsOf searched wanted allowed s a → stepsIn r ≡ walkOf (lineOf (now (layer .entry)) back at step) s a count) ⌝ }
+{
+    let mut p = at;
+    let mut k = 0;
+    let mut kept = NO_CHARACTER;
+    while k < count {
+        p = next(back, p, step);
+        k += 1;
+        let code = layer[p];
+        if code as u64 != kept {
+            if holds(searched, code) {
+                return Walked::Steps(k);
+            }
+            if !holds(allowed, code) {
+                return Walked::Stopped(Refusal::CharacterNotAllowed(code));
+            }
+            kept = code as u64;
+        }
+    }
+    Walked::Stopped(Refusal::CharactersNotFound(wanted))
 }
 
 // Whether a direction goes backwards through a layer.
@@ -163,6 +206,33 @@ pub fn go(
         step_of(d, w),
         ahead(d, w, h, x, y),
         searched,
+        allowed,
+    )
+}
+
+// The same along light lines, with the characters as sets and the first searched one by itself.
+pub fn go_light(
+    d: Direction,
+    layer: &[u32],
+    w: usize,
+    h: usize,
+    x: usize,
+    y: usize,
+    searched: u64,
+    wanted: u32,
+    allowed: u64,
+) -> Walked
+    requires { ⌜ Place w h x y (length (now layer)) ⌝ }
+    ensures { λ r. ⌜ ((s a : List ℕ) → SetsOf searched wanted allowed s a → stepsIn r ≡ goOf d (canvas w h (now (layer .entry))) w h x y s a) ⌝ }
+{
+    walk_light(
+        layer,
+        is_back(d),
+        y * w + x,
+        step_of(d, w),
+        ahead(d, w, h, x, y),
+        searched,
+        wanted,
         allowed,
     )
 }

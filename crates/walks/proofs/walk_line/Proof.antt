@@ -71,18 +71,18 @@ shared-slice-read-code c = inside (c .before)
 cast-if1 : tie.Need-cast-if1 Inv-loop μ-loop
 cast-if1 c = omega (arith, c .shared-slice-known4 .given (c .before .next .result))
 
-among-requires : tie.Need-among-requires Inv-loop μ-loop
-among-requires c κs = search needs
+one-of-requires : tie.Need-one-of-requires Inv-loop μ-loop
+one-of-requires c κs = search needs
 
 returns : tie.Need-returns Inv-loop μ-loop
 returns c =
     let n = c .before .before .before .before in
     let l = n .before .before .loop in
-    sym (turn-found (line (entry n)) (entry n .args .searched .now) (entry n .args .allowed .now) (l .k) (entry n .args .count) (n .before .loop-test .taken) (told n (entry n .args .searched .now) (c .before .among .ensures) (c .if2 .taken)))
+    sym (turn-found (line (entry n)) (entry n .args .searched .now) (entry n .args .allowed .now) (l .k) (entry n .args .count) (n .before .loop-test .taken) (told n (entry n .args .searched .now) (c .before .one-of .ensures) (c .if2 .taken)))
     ∙ l .inv .1 .1 .0
 
-one-of-requires : tie.Need-one-of-requires Inv-loop μ-loop
-one-of-requires c κs = search needs
+one-of-requires-2 : tie.Need-one-of-requires-2 Inv-loop μ-loop
+one-of-requires-2 c κs = search needs
 
 returns-2 : tie.Need-returns-2 Inv-loop μ-loop
 returns-2 c =
@@ -90,7 +90,7 @@ returns-2 c =
     let n = m .before .before .before in
     let l = n .before .before .loop in
     ap (λ (q : ℕ). refused (CharacterNotAllowed (getD (entry n .args .layer .now) q 0))) (here n)
-    ∙ sym (turn-barred (line (entry n)) (entry n .args .searched .now) (entry n .args .allowed .now) (l .k) (entry n .args .count) (n .before .loop-test .taken) (told n (entry n .args .searched .now) (m .among .ensures) (c .before .before .if2 .left)) (told n (entry n .args .allowed .now) (c .before .one-of .ensures) (not-true _ (c .if3 .taken))))
+    ∙ sym (turn-barred (line (entry n)) (entry n .args .searched .now) (entry n .args .allowed .now) (l .k) (entry n .args .count) (n .before .loop-test .taken) (told n (entry n .args .searched .now) (m .one-of .ensures) (c .before .before .if2 .left)) (told n (entry n .args .allowed .now) (c .before .one-of2 .ensures) (not-true _ (c .if3 .taken))))
     ∙ l .inv .1 .1 .0
 
 cast-kept : tie.Need-cast-kept Inv-loop μ-loop
@@ -106,8 +106,8 @@ loop-again c =
     let m = c .before .before .before in
     let n = m .before .before .before in
     let l = n .before .before .loop in
-    let s = m .among .ensures in
-    let a = c .before .one-of .ensures in (
+    let s = m .one-of .ensures in
+    let a = c .before .one-of2 .ensures in (
       omega (arith, n .before .loop-test .taken),
       (
         here n,
@@ -161,9 +161,9 @@ walk-line-spec =
     mul-code
     shared-slice-read-code
     cast-if1
-    among-requires
-    returns
     one-of-requires
+    returns
+    one-of-requires-2
     returns-2
     cast-kept
     loop-less
