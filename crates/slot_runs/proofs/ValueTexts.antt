@@ -14,9 +14,9 @@ use Rattle.utils.proofs.Answers.{split-length}
 use Rattle.cells.proofs.SpanLaws.{part-of}
 use Rattle.clauses.specs.Clauses.{present}
 use Rattle.clauses.specs.Stated.{allowedText, defaultText}
-use Rattle.slots.specs.Spelt.{partOf, PartIn}
-use Rattle.slots.specs.declared.Part.{Part}
-use Rattle.slots.proofs.SpeltLaws.{part-length, part-none, part-some}
+use Rattle.slot_runs.specs.Spelt.{partOf, PartIn}
+use Rattle.slot_runs.specs.declared.Part.{Part}
+use Rattle.slot_runs.proofs.SpeltLaws.{part-length, part-none, part-some}
 
 -- the allowed values and the default
 abbrev pub valueTexts : Text → List Text

@@ -9,8 +9,8 @@ use Rattle.record.specs.Policy.{Text}
 use Rattle.record.specs.Record.{packed}
 use Rattle.record.specs.Slots.{kindAt, offsetAt, lengthAt, slotLimit}
 use Rattle.writer.specs.SlotTexts.{textsFrom}
-use Rattle.slots.specs.declared.Filled.{Filled}
-use Rattle.slots.specs.declared.Part.{Part}
+use Rattle.slot_runs.specs.declared.Filled.{Filled}
+use Rattle.slot_runs.specs.declared.Part.{Part}
 
 -- a sheet in a slice, whose regions have their texts in at most 61,440 bytes
 pub record Texts (d : List ℕ) (n : ℕ) (bytes spans : List ℕ) (count : ℕ) : Type 0 where

@@ -23,9 +23,9 @@ use Rattle.record.proofs.Texts.{length-packed}
 use Rattle.clauses.specs.Clauses.{present}
 use Rattle.clauses.specs.Spelled.{joinRun}
 use Rattle.writer.specs.SlotTexts.{textOfKind, slotText}
-use Rattle.slots.specs.Spelt.{partOf, PartIn, SlotPut, Room, Spelt}
-use Rattle.slots.specs.declared.Filled.{Filled}
-use Rattle.slots.specs.declared.Part.{Part}
+use Rattle.slot_runs.specs.Spelt.{partOf, PartIn, SlotPut, Room, Spelt}
+use Rattle.slot_runs.specs.declared.Filled.{Filled}
+use Rattle.slot_runs.specs.declared.Part.{Part}
 
 -- one text more, and one list more
 pub run-more : {A : Type 0} (f : ℕ → A) (k n : ℕ) → run f k (n + 1) ≡ run f k n ++ (f (k + n) ∷ [])

@@ -1,4 +1,4 @@
--- `slots::put_row` meets its contract.
+-- `slot_runs::put_row` meets its contract.
 use mathlib.Core.Path.{refl, ap}
 use mathlib.Core.Option.{some}
 use Prim.Native.Nat.{_-_}
@@ -8,9 +8,9 @@ use Rattle.lists.specs.Run.{run}
 use Rattle.cells.specs.Plane.{planeIn}
 use Rattle.cells.specs.Spans.{textIn}
 use Rattle.clauses.specs.Spelled.{rowTexts}
-use Rattle.slots.proofs.SpeltLaws.{Turning, turning-start, turning-room, turning-more, turning-end, run-more, spelt-text}
-use Rattle.slots.proofs.put_row.Statement.{statement}
-use Rattle.slots.proofs.put_row.Tie as tie
+use Rattle.slot_runs.proofs.SpeltLaws.{Turning, turning-start, turning-room, turning-more, turning-end, run-more, spelt-text}
+use Rattle.slot_runs.proofs.put_row.Statement.{statement}
+use Rattle.slot_runs.proofs.put_row.Tie as tie
 
 abbrev Inv-loop : tie.InvT-loop
 Inv-loop plane rows bytes spans count slots₀ y x n slot₀ used₀ i₀ slots slot used i =

@@ -1,14 +1,14 @@
--- `slots::put_rewritten` meets its contract.
+-- `slot_runs::put_rewritten` meets its contract.
 use mathlib.Core.Path.{refl, ap}
 use mathlib.Core.Option.{some}
 use Prim.Native.Nat.{ℕ, _+_}
 use native.Mathlib.Omega.{arith}
 use borrow.Author.Needs.{needs}
 use Rattle.utils.specs.Split.{valuesOf}
-use Rattle.slots.specs.Spelt.{partOf}
-use Rattle.slots.proofs.SpeltLaws.{spelt-one}
-use Rattle.slots.proofs.put_rewritten.Statement.{statement}
-use Rattle.slots.proofs.put_rewritten.Tie as tie
+use Rattle.slot_runs.specs.Spelt.{partOf}
+use Rattle.slot_runs.proofs.SpeltLaws.{spelt-one}
+use Rattle.slot_runs.proofs.put_rewritten.Statement.{statement}
+use Rattle.slot_runs.proofs.put_rewritten.Tie as tie
 
 put-slot-requires : tie.Need-put-slot-requires
 put-slot-requires c κs = search needs

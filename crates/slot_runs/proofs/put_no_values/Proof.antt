@@ -1,11 +1,11 @@
--- `slots::put_no_values` meets its contract.
+-- `slot_runs::put_no_values` meets its contract.
 use mathlib.Core.Path.{refl}
 use mathlib.Core.List.{[]}
 use native.Mathlib.Omega.{arith}
 use borrow.Author.Needs.{needs}
-use Rattle.slots.proofs.SpeltLaws.{room-next, spelt-then}
-use Rattle.slots.proofs.put_no_values.Statement.{statement}
-use Rattle.slots.proofs.put_no_values.Tie as tie
+use Rattle.slot_runs.proofs.SpeltLaws.{room-next, spelt-then}
+use Rattle.slot_runs.proofs.put_no_values.Statement.{statement}
+use Rattle.slot_runs.proofs.put_no_values.Tie as tie
 
 put-absent-requires : tie.Need-put-absent-requires
 put-absent-requires c κs = search needs

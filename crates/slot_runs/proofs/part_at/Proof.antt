@@ -1,4 +1,4 @@
--- `slots::part_at` meets its contract.
+-- `slot_runs::part_at` meets its contract.
 use mathlib.Core.Path.{_≡_}
 use Prim.Native.Nat.{ℕ, _<_}
 use native.Mathlib.Omega.{arith}
@@ -6,9 +6,9 @@ use borrow.Author.Needs.{needs}
 use Rattle.lists.specs.Answer.{ok}
 use Rattle.cells.specs.Plane.{planeIn}
 use Rattle.allowed.specs.SheetCells.{regionAt}
-use Rattle.slots.proofs.CellTexts.{region-among, read-text, unread-text}
-use Rattle.slots.proofs.part_at.Statement.{statement}
-use Rattle.slots.proofs.part_at.Tie as tie
+use Rattle.slot_runs.proofs.CellTexts.{region-among, read-text, unread-text}
+use Rattle.slot_runs.proofs.part_at.Statement.{statement}
+use Rattle.slot_runs.proofs.part_at.Tie as tie
 
 abbrev start : tie.After-known-told → tie.Start
 start c = c .before .before .before .before .before .before .before

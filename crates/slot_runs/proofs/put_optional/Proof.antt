@@ -1,10 +1,10 @@
--- `slots::put_optional` meets its contract.
+-- `slot_runs::put_optional` meets its contract.
 use mathlib.Core.Path.{sym}
 use native.Mathlib.Omega.{arith}
 use borrow.Author.Needs.{needs}
-use Rattle.slots.proofs.SpeltLaws.{part-none, part-some, spelt-text}
-use Rattle.slots.proofs.put_optional.Statement.{statement}
-use Rattle.slots.proofs.put_optional.Tie as tie
+use Rattle.slot_runs.proofs.SpeltLaws.{part-none, part-some, spelt-text}
+use Rattle.slot_runs.proofs.put_optional.Statement.{statement}
+use Rattle.slot_runs.proofs.put_optional.Tie as tie
 
 put-absent-requires : tie.Need-put-absent-requires
 put-absent-requires c κs = search needs

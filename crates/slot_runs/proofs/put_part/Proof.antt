@@ -1,12 +1,12 @@
--- `slots::put_part` meets its contract.
+-- `slot_runs::put_part` meets its contract.
 use mathlib.Core.Path.{refl}
 use mathlib.Core.Option.{some}
 use native.Mathlib.Omega.{arith}
 use borrow.Author.Needs.{needs}
-use Rattle.slots.specs.Spelt.{partOf}
-use Rattle.slots.proofs.SpeltLaws.{part-length, spelt-one}
-use Rattle.slots.proofs.put_part.Statement.{statement}
-use Rattle.slots.proofs.put_part.Tie as tie
+use Rattle.slot_runs.specs.Spelt.{partOf}
+use Rattle.slot_runs.proofs.SpeltLaws.{part-length, spelt-one}
+use Rattle.slot_runs.proofs.put_part.Statement.{statement}
+use Rattle.slot_runs.proofs.put_part.Tie as tie
 
 put-slot-requires : tie.Need-put-slot-requires
 put-slot-requires c κs = search needs

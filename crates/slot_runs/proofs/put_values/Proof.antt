@@ -1,4 +1,4 @@
--- `slots::put_values` meets its contract.
+-- `slot_runs::put_values` meets its contract.
 use mathlib.Core.Path.{refl}
 use mathlib.Core.List.{[], _∷_}
 use mathlib.Core.Option.{some}
@@ -7,11 +7,11 @@ use native.Mathlib.Omega.{arith}
 use borrow.Author.Needs.{needs}
 use Rattle.model.specs.Limits.{textBytes}
 use Rattle.utils.specs.Split.{valuesOf}
-use Rattle.slots.specs.Spelt.{partOf, Spelt}
-use Rattle.slots.proofs.ValueTexts.{MarkedIn, values-none, values-plain, marked-in, default-in, values-marked}
-use Rattle.slots.proofs.SpeltLaws.{spelt-then, spelt-as, room-next, room-less}
-use Rattle.slots.proofs.put_values.Statement.{statement}
-use Rattle.slots.proofs.put_values.Tie as tie
+use Rattle.slot_runs.specs.Spelt.{partOf, Spelt}
+use Rattle.slot_runs.proofs.ValueTexts.{MarkedIn, values-none, values-plain, marked-in, default-in, values-marked}
+use Rattle.slot_runs.proofs.SpeltLaws.{spelt-then, spelt-as, room-next, room-less}
+use Rattle.slot_runs.proofs.put_values.Statement.{statement}
+use Rattle.slot_runs.proofs.put_values.Tie as tie
 
 abbrev start : tie.After-known-told → tie.Start
 start c = c .before .before .before .before .before .before .before .before .before .before .before

@@ -1,11 +1,11 @@
--- `slots::put_absent` meets its contract.
+-- `slot_runs::put_absent` meets its contract.
 use mathlib.Core.Path.{refl}
 use mathlib.Core.Option.{none}
 use native.Mathlib.Omega.{arith}
 use borrow.Author.Needs.{needs}
-use Rattle.slots.proofs.SpeltLaws.{spelt-one}
-use Rattle.slots.proofs.put_absent.Statement.{statement}
-use Rattle.slots.proofs.put_absent.Tie as tie
+use Rattle.slot_runs.proofs.SpeltLaws.{spelt-one}
+use Rattle.slot_runs.proofs.put_absent.Statement.{statement}
+use Rattle.slot_runs.proofs.put_absent.Tie as tie
 
 put-slot-requires : tie.Need-put-slot-requires
 put-slot-requires c κs = search needs

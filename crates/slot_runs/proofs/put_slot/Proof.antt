@@ -1,10 +1,10 @@
--- `slots::put_slot` meets its contract.
+-- `slot_runs::put_slot` meets its contract.
 use native.Mathlib.Omega.{arith}
 use borrow.Author.Needs.{needs}
 use lib.ListN.{length-set}
-use Rattle.slots.proofs.SpeltLaws.{slot-put}
-use Rattle.slots.proofs.put_slot.Statement.{statement}
-use Rattle.slots.proofs.put_slot.Tie as tie
+use Rattle.slot_runs.proofs.SpeltLaws.{slot-put}
+use Rattle.slot_runs.proofs.put_slot.Statement.{statement}
+use Rattle.slot_runs.proofs.put_slot.Tie as tie
 
 mul-slots : tie.Need-mul-slots
 mul-slots c = search needs
