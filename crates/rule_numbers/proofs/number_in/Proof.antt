@@ -1,10 +1,10 @@
--- `placement::number_in` meets its contract.
+-- `rule_numbers::number_in` meets its contract.
 use mathlib.Core.Path.{ap, _∙_}
 use Rattle.model.specs.RuleNumbers.{numberOf}
-use Rattle.placement.proofs.TextLaws.{part-room, part-text}
+use Rattle.rule_numbers.proofs.TextLaws.{part-room, part-text}
 use borrow.Author.Needs.{needs}
-use Rattle.placement.proofs.number_in.Statement.{statement}
-use Rattle.placement.proofs.number_in.Tie as tie
+use Rattle.rule_numbers.proofs.number_in.Statement.{statement}
+use Rattle.rule_numbers.proofs.number_in.Tie as tie
 
 region-of-requires : tie.Need-region-of-requires
 region-of-requires c κs = search needs

@@ -1,12 +1,12 @@
--- `placement::count_numbers` meets its contract.
+-- `rule_numbers::count_numbers` meets its contract.
 use Prim.Native.Nat.{_-_}
 use Rattle.cells.specs.Spans.{textIn}
-use Rattle.placement.proofs.TextLaws.{line-part}
-use Rattle.placement.proofs.CountLaws.{Counts, count-start, count-missing, count-other, count-wrong, count-on, count-end}
+use Rattle.rule_numbers.proofs.TextLaws.{line-part}
+use Rattle.rule_numbers.proofs.CountLaws.{Counts, count-start, count-missing, count-other, count-wrong, count-on, count-end}
 use native.Mathlib.Omega.{arith}
 use borrow.Author.Needs.{needs}
-use Rattle.placement.proofs.count_numbers.Statement.{statement}
-use Rattle.placement.proofs.count_numbers.Tie as tie
+use Rattle.rule_numbers.proofs.count_numbers.Statement.{statement}
+use Rattle.rule_numbers.proofs.count_numbers.Tie as tie
 
 abbrev Inv-loop : tie.InvT-loop
 Inv-loop plane bytes spans count down row n from k₀ m₀ k m = Counts (textIn bytes spans count) plane down row n from k m

@@ -12,8 +12,8 @@ use Rattle.lists.specs.Choose.{choose}
 use Rattle.lists.specs.Run.{run, build}
 use Rattle.lists.proofs.RunLaws.{build-same, drop-build, drop-build-end, map-run}
 use Rattle.cells.specs.Plane.{cellAt, cellsIn, rowIn, planeIn}
-use Rattle.placement.specs.Placement.{first, last}
-use Rattle.placement.specs.Line.{slotOf, lineOf}
+use Rattle.rule_numbers.specs.Numbering.{first, last}
+use Rattle.rule_numbers.specs.Line.{slotOf, lineOf}
 
 module _ (d : List ℕ) (down : Bool) (row n k : ℕ) where
   pub line-at : k < n → drop k (lineOf d down row n) ≡ slotOf d down row k ∷ drop (k + 1) (lineOf d down row n)

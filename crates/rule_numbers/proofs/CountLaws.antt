@@ -10,9 +10,9 @@ use borrow.Author.Tests.{eq-eqb, ne-eqb}
 use Rattle.lists.specs.Answer.{ok, refused}
 use Rattle.model.specs.declared.Cell.{Cell}
 use Rattle.model.specs.declared.Refusal.the-variants.{PlaneMalformed, InvalidRuleNumber}
-use Rattle.placement.specs.Placement.{numberIn, counted}
-use Rattle.placement.specs.Line.{slotOf, lineOf}
-use Rattle.placement.proofs.LineLaws.{line-at, line-end}
+use Rattle.rule_numbers.specs.Numbering.{numberIn, counted}
+use Rattle.rule_numbers.specs.Line.{slotOf, lineOf}
+use Rattle.rule_numbers.proofs.LineLaws.{line-at, line-end}
 
 -- the numbers 1 to m stand from a place on, up to k
 pub record Counts (text : ℕ → List ℕ) (d : List ℕ) (down : Bool) (row n from k m : ℕ) : Type 0 where

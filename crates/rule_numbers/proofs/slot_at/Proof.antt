@@ -1,9 +1,9 @@
--- `placement::slot_at` meets its contract.
+-- `rule_numbers::slot_at` meets its contract.
 use borrow.Author.Tests.{lt-ltb, le-ltb}
 use native.Mathlib.Omega.{arith}
 use borrow.Author.Needs.{needs}
-use Rattle.placement.proofs.slot_at.Statement.{statement}
-use Rattle.placement.proofs.slot_at.Tie as tie
+use Rattle.rule_numbers.proofs.slot_at.Statement.{statement}
+use Rattle.rule_numbers.proofs.slot_at.Tie as tie
 
 mul-if2 : tie.Need-mul-if2
 mul-if2 c = search needs

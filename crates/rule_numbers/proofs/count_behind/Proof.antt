@@ -1,7 +1,7 @@
--- `placement::count_behind` meets its contract.
+-- `rule_numbers::count_behind` meets its contract.
 use borrow.Author.Needs.{needs}
-use Rattle.placement.proofs.count_behind.Statement.{statement}
-use Rattle.placement.proofs.count_behind.Tie as tie
+use Rattle.rule_numbers.proofs.count_behind.Statement.{statement}
+use Rattle.rule_numbers.proofs.count_behind.Tie as tie
 
 place-behind-requires : tie.Need-place-behind-requires
 place-behind-requires c κs = search needs

@@ -1,12 +1,12 @@
--- `placement::numbers_right` meets its contract.
+-- `rule_numbers::numbers_right` meets its contract.
 use Prim.Native.Nat.{_-_}
 use borrow.Author.Tests.{lt-ltb, le-ltb}
-use Rattle.placement.proofs.TextLaws.{held-row}
-use Rattle.placement.proofs.NumbersLaws.{right-told, right-refused}
+use Rattle.rule_numbers.proofs.TextLaws.{held-row}
+use Rattle.rule_numbers.proofs.NumbersLaws.{right-told, right-refused}
 use native.Mathlib.Omega.{arith}
 use borrow.Author.Needs.{needs}
-use Rattle.placement.proofs.numbers_right.Statement.{statement}
-use Rattle.placement.proofs.numbers_right.Tie as tie
+use Rattle.rule_numbers.proofs.numbers_right.Statement.{statement}
+use Rattle.rule_numbers.proofs.numbers_right.Tie as tie
 
 sub-width : tie.Need-sub-width
 sub-width c = search needs

@@ -13,9 +13,9 @@ use Rattle.model.specs.declared.Cell.the-variants.{VerticalOutputDoubleLine, Ho
 use Rattle.model.specs.declared.Refusal.{Refusal}
 use Rattle.model.specs.declared.RuleNumbersPlacement.the-variants.{LeftBelow, RightAfter, NotPresent}
 use Rattle.cells.specs.Plane.{planeIn}
-use Rattle.placement.specs.Placement.{countedBehind, numbersLeft, numbersRight, rightOf, ruleNumbersOf}
-use Rattle.placement.specs.Line.{lineOf}
-use Rattle.placement.proofs.LineLaws.{last-row, row-line, column-line}
+use Rattle.rule_numbers.specs.Numbering.{countedBehind, numbersLeft, numbersRight, rightOf, ruleNumbersOf}
+use Rattle.rule_numbers.specs.Line.{lineOf}
+use Rattle.rule_numbers.proofs.LineLaws.{last-row, row-line, column-line}
 
 module _ (text : ℕ → List ℕ) (d : List ℕ) (n : ℕ) where
   left-line : numbersLeft text (planeIn d n) ≡ countedBehind text HorizontalOutputDoubleLine (lineOf d true 0 n)

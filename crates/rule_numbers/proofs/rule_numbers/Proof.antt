@@ -1,11 +1,11 @@
--- `placement::rule_numbers` meets its contract.
+-- `rule_numbers::rule_numbers` meets its contract.
 use mathlib.Core.Path.{_∙_}
 use borrow.Author.Tests.{lt-ltb, le-ltb}
-use Rattle.placement.proofs.TextLaws.{held-column}
-use Rattle.placement.proofs.NumbersLaws.{left-told, left-refused}
+use Rattle.rule_numbers.proofs.TextLaws.{held-column}
+use Rattle.rule_numbers.proofs.NumbersLaws.{left-told, left-refused}
 use borrow.Author.Needs.{needs}
-use Rattle.placement.proofs.rule_numbers.Statement.{statement}
-use Rattle.placement.proofs.rule_numbers.Tie as tie
+use Rattle.rule_numbers.proofs.rule_numbers.Statement.{statement}
+use Rattle.rule_numbers.proofs.rule_numbers.Tie as tie
 
 count-behind-requires : tie.Need-count-behind-requires
 count-behind-requires c κs = held-column (c .before .before .before .pre .0)

@@ -1,11 +1,11 @@
--- `placement::place_behind` meets its contract.
+-- `rule_numbers::place_behind` meets its contract.
 use mathlib.Core.Path.{sym, _∙_}
 use Prim.Native.Nat.{_-_}
-use Rattle.placement.proofs.PlaceLaws.{Looked, look-start, look-missing, look-found, look-on, look-end}
+use Rattle.rule_numbers.proofs.PlaceLaws.{Looked, look-start, look-missing, look-found, look-on, look-end}
 use native.Mathlib.Omega.{arith}
 use borrow.Author.Needs.{needs}
-use Rattle.placement.proofs.place_behind.Statement.{statement}
-use Rattle.placement.proofs.place_behind.Tie as tie
+use Rattle.rule_numbers.proofs.place_behind.Statement.{statement}
+use Rattle.rule_numbers.proofs.place_behind.Tie as tie
 
 abbrev Inv-loop : tie.InvT-loop
 Inv-loop plane down row n kind k₀ k = Looked plane down row n kind k

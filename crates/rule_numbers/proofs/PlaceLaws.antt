@@ -10,9 +10,9 @@ use Rattle.lists.specs.Answer.{ok, refused}
 use Rattle.model.specs.Cells.{sameKind}
 use Rattle.model.specs.declared.Cell.{Cell}
 use Rattle.model.specs.declared.Refusal.the-variants.{PlaneMalformed}
-use Rattle.placement.specs.Placement.{placeBehind}
-use Rattle.placement.specs.Line.{slotOf, lineOf}
-use Rattle.placement.proofs.LineLaws.{line-at, line-end}
+use Rattle.rule_numbers.specs.Numbering.{placeBehind}
+use Rattle.rule_numbers.specs.Line.{slotOf, lineOf}
+use Rattle.rule_numbers.proofs.LineLaws.{line-at, line-end}
 
 -- none of the first k cells is of the kind
 pub record Looked (d : List ℕ) (down : Bool) (row n : ℕ) (kind : Cell) (k : ℕ) : Type 0 where

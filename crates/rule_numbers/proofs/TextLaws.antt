@@ -18,8 +18,8 @@ use Rattle.cells.specs.Held.{Held}
 use Rattle.cells.specs.Plane.{cellAt}
 use Rattle.cells.specs.Spans.{offsetAt, lengthAt, textAt, textIn}
 use Rattle.cells.proofs.SpanLaws.{text-in}
-use Rattle.placement.specs.Line.{slotOf}
-use Rattle.placement.specs.Told.{LineHeld, PartIn}
+use Rattle.rule_numbers.specs.Line.{slotOf}
+use Rattle.rule_numbers.specs.Told.{LineHeld, PartIn}
 
 -- of a cell's region
 pub part-room : (c : Cell) {k : ℕ} → some k ≡ regionOf c → {bytes spans : List ℕ} {n : ℕ} → PartIn c bytes spans n
