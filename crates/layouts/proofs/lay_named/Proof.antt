@@ -1,8 +1,8 @@
--- `clauses::lay_named` meets its contract.
+-- `layouts::lay_named` meets its contract.
 use borrow.Author.Needs.{needs}
-use Rattle.clauses.proofs.ShapeLaws.{read-if, read-not, named-stop, named-values, named-as}
-use Rattle.clauses.proofs.lay_named.Statement.{statement}
-use Rattle.clauses.proofs.lay_named.Tie as tie
+use Rattle.layouts.proofs.LayoutLaws.{read-if, read-not, named-stop, named-values, named-as}
+use Rattle.layouts.proofs.lay_named.Statement.{statement}
+use Rattle.layouts.proofs.lay_named.Tie as tie
 
 pass-row-requires : tie.Need-pass-row-requires
 pass-row-requires c κs = search needs

@@ -1,9 +1,9 @@
--- `clauses::lay_out` meets its contract.
+-- `layouts::lay_out` meets its contract.
 use mathlib.Core.Path.{_∙_}
 use borrow.Author.Needs.{needs}
-use Rattle.clauses.proofs.ShapeLaws.{layout-none, layout-one, layout-many}
-use Rattle.clauses.proofs.lay_out.Statement.{statement}
-use Rattle.clauses.proofs.lay_out.Tie as tie
+use Rattle.layouts.proofs.LayoutLaws.{layout-none, layout-one, layout-many}
+use Rattle.layouts.proofs.lay_out.Statement.{statement}
+use Rattle.layouts.proofs.lay_out.Tie as tie
 
 returns : tie.Need-returns
 returns c = layout-none _ _ _ _ _ (c .if1 .taken)

@@ -1,9 +1,9 @@
--- `clauses::lay_labelled` meets its contract.
+-- `layouts::lay_labelled` meets its contract.
 use borrow.Author.Needs.{needs}
-use Rattle.clauses.proofs.PassLaws.{fine-ok, fine-not}
-use Rattle.clauses.proofs.ShapeLaws.{read-if, read-not, label-stop, labelled-names, labelled-values, labelled-as}
-use Rattle.clauses.proofs.lay_labelled.Statement.{statement}
-use Rattle.clauses.proofs.lay_labelled.Tie as tie
+use Rattle.layouts.proofs.PassLaws.{fine-ok, fine-not}
+use Rattle.layouts.proofs.LayoutLaws.{read-if, read-not, label-stop, labelled-names, labelled-values, labelled-as}
+use Rattle.layouts.proofs.lay_labelled.Statement.{statement}
+use Rattle.layouts.proofs.lay_labelled.Tie as tie
 
 region-at-requires : tie.Need-region-at-requires
 region-at-requires c κs = search needs

@@ -1,9 +1,9 @@
--- `clauses::lay_many` meets its contract.
+-- `layouts::lay_many` meets its contract.
 use mathlib.Core.Path.{_∙_}
 use borrow.Author.Needs.{needs}
-use Rattle.clauses.proofs.ShapeLaws.{many-one, many-valued, many-labelled, many-more}
-use Rattle.clauses.proofs.lay_many.Statement.{statement}
-use Rattle.clauses.proofs.lay_many.Tie as tie
+use Rattle.layouts.proofs.LayoutLaws.{many-one, many-valued, many-labelled, many-more}
+use Rattle.layouts.proofs.lay_many.Statement.{statement}
+use Rattle.layouts.proofs.lay_many.Tie as tie
 
 lay-named-requires : tie.Need-lay-named-requires
 lay-named-requires c κs = search needs

@@ -1,9 +1,9 @@
--- `clauses::lay_one` meets its contract.
+-- `layouts::lay_one` meets its contract.
 use borrow.Author.Needs.{needs}
-use Rattle.clauses.proofs.PassLaws.{fine-ok, fine-not}
-use Rattle.clauses.proofs.ShapeLaws.{one-row, one-row-stop, two-rows, two-rows-stop, more-rows}
-use Rattle.clauses.proofs.lay_one.Statement.{statement}
-use Rattle.clauses.proofs.lay_one.Tie as tie
+use Rattle.layouts.proofs.PassLaws.{fine-ok, fine-not}
+use Rattle.layouts.proofs.LayoutLaws.{one-row, one-row-stop, two-rows, two-rows-stop, more-rows}
+use Rattle.layouts.proofs.lay_one.Statement.{statement}
+use Rattle.layouts.proofs.lay_one.Tie as tie
 
 region-at-requires : tie.Need-region-at-requires
 region-at-requires c κs = search needs
