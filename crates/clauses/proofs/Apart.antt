@@ -23,9 +23,10 @@ use Rattle.allowed.specs.Allowed.{allowedOf}
 use Rattle.clauses.specs.Readings.{along}
 use Rattle.clauses.specs.SheetCells.{Place}
 use Rattle.clauses.specs.Clauses.{mainOf, outputsEnd, present, OutputTexts, NoteTexts, Found, textAt, optionalAt, entriesOf, oneOutput, manyOutputs, outputsOf, notesOf, foundFrom}
-use Rattle.clauses.specs.Shape.{fine, fineRow, fineRows, oneLayout, namedLayout, labelledLayout, manyLayout, layoutOf, notesAt, inputsFine, clausesAt, shapeOf}
+use Rattle.layouts.specs.Layouts.{fine, fineRow, fineRows, oneLayout, namedLayout, labelledLayout, manyLayout, layoutOf}
+use Rattle.clauses.specs.Shape.{notesAt, inputsFine, clausesAt, shapeOf}
 use Rattle.clauses.specs.Spelled.{readOr, cellText, optional}
-use Rattle.clauses.specs.declared.Layout.{Layout}
+use Rattle.layouts.specs.declared.Layout.{Layout}
 use Rattle.clauses.specs.declared.Notes.{Notes}
 use Rattle.clauses.specs.declared.Shape.{Shape}
 use Rattle.clauses.proofs.ReadingsApart.{Apart, after, same, way, joined, along-apart}

@@ -1,5 +1,4 @@
 -- Laws of the clause rules.
-mod PassLaws
 mod SpotLaws
 mod ShapeLaws
 pub mod ReadingsApart

@@ -22,9 +22,10 @@ use Rattle.allowed.specs.Allowed.{allowedOf}
 use Rattle.clauses.specs.SheetCells.{Place}
 use Rattle.clauses.specs.Sizes.{differ, uneven, sized}
 use Rattle.clauses.specs.Clauses.{mainOf, outputsEnd}
-use Rattle.clauses.specs.Shape.{fine, fineRow, fineRows, inputsFine, notesAt, oneLayout, namedLayout, labelledLayout, manyLayout, layoutOf, clausesAt, shapeOf, sizesOf}
+use Rattle.layouts.specs.Layouts.{fine, fineRow, fineRows, oneLayout, namedLayout, labelledLayout, manyLayout, layoutOf}
+use Rattle.clauses.specs.Shape.{inputsFine, notesAt, clausesAt, shapeOf, sizesOf}
 use Rattle.clauses.specs.Spelled.{cellText, optional, firstOutput, valuesRow, namesRow}
-use Rattle.clauses.specs.declared.Layout.{Layout}
+use Rattle.layouts.specs.declared.Layout.{Layout}
 use Rattle.clauses.specs.declared.Shape.{Shape}
 use Rattle.clauses.proofs.Apart.{foundAs}
 

@@ -6,7 +6,8 @@ use Rattle.lists.specs.Answer.{ok, refused, _>>=_}
 use Rattle.lists.specs.Choose.{choose}
 use Rattle.lists.specs.Run.{run}
 use Rattle.model.specs.Refusals.{Reading}
-use Rattle.clauses.specs.Readings.{along, pass}
+use Rattle.layouts.specs.Readings.{pass}
+use Rattle.clauses.specs.Readings.{along}
 
 -- a refuses what c refuses, and answers v of what c answers
 abbrev pub Apart : {A B : Type 0} → Reading A → Reading B → (B → A) → Type 0

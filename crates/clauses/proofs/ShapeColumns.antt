@@ -17,7 +17,8 @@ use Rattle.allowed.specs.Readings.{refuse}
 use Rattle.allowed.specs.SheetCells.{widthOf}
 use Rattle.clauses.specs.Clauses.{mainOf, outputsEnd}
 use Rattle.clauses.specs.SheetCells.{Place, placeOf}
-use Rattle.clauses.specs.Shape.{fineRow, fineRows, layoutOf, notesAt, inputsFine, clausesAt, shapeOf, sizesOf, checkedShape}
+use Rattle.layouts.specs.Layouts.{fineRow, fineRows, layoutOf}
+use Rattle.clauses.specs.Shape.{notesAt, inputsFine, clausesAt, shapeOf, sizesOf, checkedShape}
 use Rattle.clauses.specs.declared.Notes.{Notes}
 use Rattle.clauses.specs.declared.Shape.{Shape}
 use Rattle.clauses.proofs.SpelledStated.{passed}

@@ -1,7 +1,7 @@
 -- Readings at one place after the other, up to the first refusal.
 use mathlib.Core.List.{List, [], _∷_}
 use Prim.Native.Nat.{ℕ, zero, suc}
-use Rattle.lists.specs.Answer.{ok, _>>=_, _>>_}
+use Rattle.lists.specs.Answer.{ok, _>>=_}
 use Rattle.model.specs.Refusals.{Reading}
 
 -- what f answers at i, i + 1, .., n places
@@ -11,10 +11,3 @@ along f i (suc n) = do
   a ← f i
   s ← along f (suc i) n
   ok (a ∷ s)
-
--- nothing but the refusals of f at i, i + 1, .., n places
-unfoldable pub pass : (ℕ → Reading (Unit {0})) → ℕ → ℕ → Reading (Unit {0})
-pass f i zero = ok tt
-pass f i (suc n) = do
-  f i
-  pass f (suc i) n

@@ -6,23 +6,14 @@ use Rattle.lists.specs.Answer.{ok, refused}
 use Rattle.model.specs.Limits.{planeCells}
 use Rattle.model.specs.Refusals.{Reading}
 use Rattle.clauses.specs.SheetCells.{Place}
-use Rattle.clauses.specs.declared.Pass.{Pass}
-use Rattle.clauses.specs.declared.Pass.the-variants.{Clear, Stopped}
 use Rattle.clauses.specs.declared.Spot.{Spot}
 use Rattle.clauses.specs.declared.Spot.the-variants.{At, Nowhere}
-use Rattle.clauses.specs.declared.Layout.{Layout}
-use Rattle.clauses.specs.declared.LaidOut.{LaidOut}
-use Rattle.clauses.specs.declared.LaidOut.the-variants.{As, NotLaidOut}
 use Rattle.clauses.specs.declared.Notes.{Notes}
 use Rattle.clauses.specs.declared.Noted.{Noted}
 use Rattle.clauses.specs.declared.Noted.the-variants.{Are, NotNoted}
 use Rattle.clauses.specs.declared.Shape.{Shape}
 use Rattle.clauses.specs.declared.Shaped.{Shaped}
 use Rattle.clauses.specs.declared.Shaped.the-variants.{Has, NotShaped}
-
-abbrev pub passIn : Pass → Reading (Unit {0})
-passIn Clear = ok tt
-passIn (Stopped r) = refused r
 
 abbrev pub placeIn : Spot → Option Place
 placeIn (At y x) = some (record { row = y; col = x })
@@ -37,10 +28,6 @@ SpotWithin Nowhere rows = Unit {0}
 abbrev pub SpotInColumn : Spot → ℕ → ℕ → Type 0
 SpotInColumn (At y x) rows c = (y < rows) × (x ≡ c)
 SpotInColumn Nowhere rows c = Unit {0}
-
-abbrev pub layoutIn : LaidOut → Reading Layout
-layoutIn (As l) = ok l
-layoutIn (NotLaidOut r) = refused r
 
 abbrev pub notesIn : Noted → Reading Notes
 notesIn (Are n) = ok n

@@ -1,6 +1,8 @@
 // The clause rules on an upright sheet: every refusal in its order, and where everything stands.
-use allowed::CellRead;
 use allowed::Test;
+use layouts::LaidOut;
+use layouts::Layout;
+use layouts::Pass;
 use model::Cell;
 use model::Refusal;
 ghost use mathlib.Core.Path.{_≡_};
@@ -8,50 +10,13 @@ ghost use Prim.Native.Nat.{_+_, _≤_, _<_};
 ghost use Rattle.model.specs.Limits.{planeRows, planeCells};
 ghost use Rattle.cells.specs.Plane.{planeIn, rowIn, PlaneFits};
 ghost use Rattle.allowed.specs.SheetCells.{widthOf};
+ghost use Rattle.layouts.specs.Told.{passIn};
+ghost use Rattle.layouts.specs.declared.Pass.the-variants.{Clear};
 ghost use Rattle.clauses.specs.SheetCells.{placeInRow, placeOf};
 ghost use Rattle.clauses.specs.Clauses.{outputsEnd};
-ghost use Rattle.clauses.specs.Shape.{fineRow, fineRows, oneLayout, namedLayout, labelledLayout, manyLayout, layoutOf, notesAt, inputsFine, clausesAt, shapeOf, sizesOf, checkedShape};
-ghost use Rattle.clauses.specs.Told.{passIn, placeIn, SpotWithin, SpotInColumn, layoutIn, notesIn, NotesFit, ShapeFits, ShapedFits, shapeIn};
+ghost use Rattle.clauses.specs.Shape.{notesAt, inputsFine, clausesAt, shapeOf, sizesOf, checkedShape};
+ghost use Rattle.clauses.specs.Told.{placeIn, SpotWithin, SpotInColumn, notesIn, NotesFit, ShapeFits, ShapedFits, shapeIn};
 ghost use Rattle.clauses.specs.declared.Spot.the-variants.{At};
-ghost use Rattle.clauses.specs.declared.Pass.the-variants.{Clear};
-
-// Cells are regions, or why not.
-enum Pass {
-    Clear,
-    Stopped(Refusal),
-}
-
-// The n cells of row y from column x on.
-fn pass_row(plane: &[u32], rows: usize, y: usize, x: usize, n: usize) -> Pass
-    requires { ⌜ PlaneFits (now plane) rows × (x + n ≤ 128) ⌝ }
-    ensures { λ r. ⌜ passIn r ≡ fineRow (planeIn (now (plane .entry)) rows) y x n ⌝ }
-{
-    let mut i = 0;
-    while i < n {
-        match allowed::region_at(plane, rows, y, x + i) {
-            CellRead::Number(_) => {}
-            CellRead::NotRead(r) => return Pass::Stopped(r),
-        }
-        i += 1;
-    }
-    Pass::Clear
-}
-
-// The n cells from column x on of each row from y on, row by row.
-fn pass_rows(plane: &[u32], rows: usize, y: usize, x: usize, n: usize) -> Pass
-    requires { ⌜ PlaneFits (now plane) rows × (x + n ≤ 128) × (y ≤ 128) ⌝ }
-    ensures { λ r. ⌜ passIn r ≡ fineRows (planeIn (now (plane .entry)) rows) y x n ⌝ }
-{
-    let mut k = y;
-    while k < rows {
-        match pass_row(plane, rows, k, x, n) {
-            Pass::Clear => {}
-            Pass::Stopped(r) => return Pass::Stopped(r),
-        }
-        k += 1;
-    }
-    Pass::Clear
-}
 
 // A row and a column, or no place.
 enum Spot {
@@ -92,125 +57,6 @@ fn spot_of(plane: &[u32], rows: usize, kind: Cell) -> Spot
     Spot::Nowhere
 }
 
-// What the output clauses have.
-pub struct Layout {
-    pub labelled: bool,
-    pub named: bool,
-    pub valued: bool,
-}
-
-enum LaidOut {
-    As(Layout),
-    NotLaidOut(Refusal),
-}
-
-// One output, in column x, under h clause rows.
-fn lay_one(plane: &[u32], rows: usize, x: usize, h: usize) -> LaidOut
-    requires { ⌜ PlaneFits (now plane) rows ⌝ }
-    ensures { λ r. ⌜ layoutIn r ≡ oneLayout (planeIn (now (plane .entry)) rows) x h ⌝ }
-{
-    if h == 1 {
-        return match allowed::region_at(plane, rows, 0, x) {
-            CellRead::Number(_) => LaidOut::As(Layout {
-                labelled: true,
-                named: false,
-                valued: false,
-            }),
-            CellRead::NotRead(r) => LaidOut::NotLaidOut(r),
-        };
-    }
-    if h == 2 {
-        return match allowed::column_is(plane, rows, false, 0, x) {
-            Test::Is(t) => LaidOut::As(Layout {
-                labelled: t,
-                named: false,
-                valued: true,
-            }),
-            Test::NotTold(r) => LaidOut::NotLaidOut(r),
-        };
-    }
-    LaidOut::NotLaidOut(Refusal::TooManyOutputRows)
-}
-
-// Component names in row 0 and, if valued, allowed values in row 1.
-fn lay_named(plane: &[u32], rows: usize, x: usize, m: usize, valued: bool) -> LaidOut
-    requires { ⌜ PlaneFits (now plane) rows × (x + m ≤ 128) ⌝ }
-    ensures { λ r. ⌜ layoutIn r ≡ namedLayout (planeIn (now (plane .entry)) rows) x m valued ⌝ }
-{
-    match pass_row(plane, rows, 0, x, m) {
-        Pass::Clear => {}
-        Pass::Stopped(r) => return LaidOut::NotLaidOut(r),
-    }
-    if valued {
-        match pass_row(plane, rows, 1, x, m) {
-            Pass::Clear => {}
-            Pass::Stopped(r) => return LaidOut::NotLaidOut(r),
-        }
-    }
-    LaidOut::As(Layout {
-        labelled: false,
-        named: true,
-        valued,
-    })
-}
-
-// A label in row 0, component names in row 1 and, if valued, allowed values in row 2.
-fn lay_labelled(plane: &[u32], rows: usize, x: usize, m: usize, valued: bool) -> LaidOut
-    requires { ⌜ PlaneFits (now plane) rows × (x + m ≤ 128) ⌝ }
-    ensures { λ r. ⌜ layoutIn r ≡ labelledLayout (planeIn (now (plane .entry)) rows) x m valued ⌝ }
-{
-    match allowed::region_at(plane, rows, 0, x) {
-        CellRead::Number(_) => {}
-        CellRead::NotRead(r) => return LaidOut::NotLaidOut(r),
-    }
-    match pass_row(plane, rows, 1, x, m) {
-        Pass::Clear => {}
-        Pass::Stopped(r) => return LaidOut::NotLaidOut(r),
-    }
-    if valued {
-        match pass_row(plane, rows, 2, x, m) {
-            Pass::Clear => {}
-            Pass::Stopped(r) => return LaidOut::NotLaidOut(r),
-        }
-    }
-    LaidOut::As(Layout {
-        labelled: true,
-        named: true,
-        valued,
-    })
-}
-
-// m outputs from column x on, under h clause rows.
-fn lay_many(plane: &[u32], rows: usize, x: usize, m: usize, h: usize, valued: bool) -> LaidOut
-    requires { ⌜ PlaneFits (now plane) rows × (x + m ≤ 128) ⌝ }
-    ensures { λ r. ⌜ layoutIn r ≡ manyLayout (planeIn (now (plane .entry)) rows) x m h valued ⌝ }
-{
-    if h == 1 {
-        return lay_named(plane, rows, x, m, false);
-    }
-    if h == 2 {
-        if valued {
-            return lay_named(plane, rows, x, m, true);
-        }
-        return lay_labelled(plane, rows, x, m, false);
-    }
-    lay_labelled(plane, rows, x, m, true)
-}
-
-// The output clauses.
-fn lay_out(plane: &[u32], rows: usize, x: usize, m: usize, h: usize, valued: bool) -> LaidOut
-    requires { ⌜ PlaneFits (now plane) rows × (x + m ≤ 128) ⌝ }
-    ensures { λ r. ⌜ layoutIn r ≡ layoutOf (planeIn (now (plane .entry)) rows) x m h valued ⌝ }
-{
-    if m == 0 {
-        return LaidOut::NotLaidOut(Refusal::NoOutputClause);
-    }
-    if m == 1 {
-        return lay_one(plane, rows, x, h);
-    }
-    lay_many(plane, rows, x, m, h, valued)
-}
-
 // How many annotations there are, and the column and the row where their entries start.
 pub struct Notes {
     pub count: usize,
@@ -245,11 +91,11 @@ fn notes_behind(plane: &[u32], rows: usize, y: usize, x: usize) -> Noted
         return Noted::NotNoted(Refusal::PlaneMalformed);
     }
     let k = w - (x + 1);
-    match pass_row(plane, rows, 0, x + 1, k) {
+    match layouts::pass_row(plane, rows, 0, x + 1, k) {
         Pass::Clear => {}
         Pass::Stopped(r) => return Noted::NotNoted(r),
     }
-    match pass_rows(plane, rows, y + 1, x + 1, k) {
+    match layouts::pass_rows(plane, rows, y + 1, x + 1, k) {
         Pass::Clear => {}
         Pass::Stopped(r) => return Noted::NotNoted(r),
     }
@@ -296,17 +142,17 @@ fn pass_inputs(plane: &[u32], rows: usize, n: usize, h: usize, values: bool) -> 
     requires { ⌜ PlaneFits (now plane) rows × (n ≤ planeCells) × (1 ≤ h) × (h < rows) ⌝ }
     ensures { λ r. ⌜ passIn r ≡ inputsFine (planeIn (now (plane .entry)) rows) n h values ⌝ }
 {
-    match pass_row(plane, rows, 0, 0, n) {
+    match layouts::pass_row(plane, rows, 0, 0, n) {
         Pass::Clear => {}
         Pass::Stopped(r) => return Pass::Stopped(r),
     }
     if values {
-        match pass_row(plane, rows, h - 1, 0, n) {
+        match layouts::pass_row(plane, rows, h - 1, 0, n) {
             Pass::Clear => {}
             Pass::Stopped(r) => return Pass::Stopped(r),
         }
     }
-    pass_rows(plane, rows, h + 1, 0, n)
+    layouts::pass_rows(plane, rows, h + 1, 0, n)
 }
 
 // The shape of n inputs and m outputs under h clause rows.
@@ -323,11 +169,11 @@ fn clauses_at(plane: &[u32], rows: usize, n: usize, m: usize, h: usize, notes: S
         Pass::Clear => {}
         Pass::Stopped(r) => return Shaped::NotShaped(r),
     }
-    let layout = match lay_out(plane, rows, n + 1, m, h, values) {
+    let layout = match layouts::lay_out(plane, rows, n + 1, m, h, values) {
         LaidOut::As(l) => l,
         LaidOut::NotLaidOut(r) => return Shaped::NotShaped(r),
     };
-    match pass_rows(plane, rows, h + 1, n + 1, m) {
+    match layouts::pass_rows(plane, rows, h + 1, n + 1, m) {
         Pass::Clear => {}
         Pass::Stopped(r) => return Shaped::NotShaped(r),
     }

@@ -12,7 +12,7 @@ use Rattle.emphasis.specs.Commas.{parts}
 use Rattle.emphasis.specs.Emphasis.{startsWith, endsWith, stripStart, stripEnd, strip, emphasised, firstMarked}
 use Rattle.utils.specs.Split.{replaceAll, valuesOf}
 use Rattle.outline.specs.Outline.{searchFrom, namedBy, outlineBy}
-use Rattle.placement.specs.Placement.{counted}
+use Rattle.rule_numbers.specs.Numbering.{counted}
 use Rattle.scan.specs.Canvas.{sizeOf}
 use Rattle.scan.specs.Rows.{upTo, collect, widest, flat}
 use Rattle.canvas.specs.Layers.{drawingBy, sheetBy}

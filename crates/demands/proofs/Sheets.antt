@@ -16,7 +16,8 @@ use Rattle.unicode.specs.White.{among}
 use Rattle.model.specs.Policies.{sameText, byLetters}
 use Rattle.model.specs.RuleNumbers.{digits, numberOf}
 use Rattle.placement.specs.Orientation.{holdsIn, holds, orientedOf}
-use Rattle.placement.specs.Placement.{last, placeBehind, placementOf, counted, ruleNumbersOf}
+use Rattle.rule_numbers.specs.Numbering.{last, placeBehind, counted, ruleNumbersOf}
+use Rattle.placement.specs.Placement.{placementOf}
 use Rattle.turning.specs.Upright.{uprightOf}
 use Rattle.plane.specs.Sheet.{statedSheet}
 use Rattle.allowed.specs.Allowed.{allowedOf}

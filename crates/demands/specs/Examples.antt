@@ -18,7 +18,7 @@ use Rattle.model.specs.declared.Cell.the-variants.{Region}
 use Rattle.model.specs.declared.HitPolicy.the-variants.{Collect}
 use Rattle.model.specs.declared.Refusal.the-variants.{CharactersNotFound, InvalidRuleNumber}
 use Rattle.allowed.specs.Allowed.{allowedBy}
-use Rattle.placement.specs.Placement.{counted}
+use Rattle.rule_numbers.specs.Numbering.{counted}
 use Rattle.utf8.specs.Utf8.{encodes}
 use Rattle.utils.specs.Split.{valuesOf}
 use Rattle.policies.specs.DrawnPolicy.{walkedPolicy}

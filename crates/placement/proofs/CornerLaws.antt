@@ -17,8 +17,8 @@ use Rattle.model.specs.declared.Refusal.{Refusal}
 use Rattle.model.specs.declared.Refusal.the-variants.{PlaneEmpty, PlaneMalformed}
 use Rattle.cells.specs.Plane.{rowIn, planeIn}
 use Rattle.placement.specs.Placement.{policyIn, cornerPolicy, bottomLeft, placementOf}
-use Rattle.placement.specs.Line.{slotOf}
-use Rattle.placement.proofs.LineLaws.{first-cell, first-row, last-row}
+use Rattle.rule_numbers.specs.Line.{slotOf}
+use Rattle.rule_numbers.proofs.LineLaws.{first-cell, first-row, last-row}
 
 module _ (text : ℕ → List ℕ) (d : List ℕ) where
   -- a row's corner

@@ -11,7 +11,8 @@ use Rattle.model.specs.declared.HitPolicy.the-variants.{Unique}
 use Rattle.model.specs.declared.Orientation.the-variants.{RulesAsRows, RulesAsColumns}
 use Rattle.model.specs.declared.Refusal.the-variants.{InvalidRuleNumber}
 use Rattle.cells.specs.Plane.{Plane}
-use Rattle.placement.specs.Placement.{last, placementOf, placeBehind, counted, ruleNumbersOf}
+use Rattle.rule_numbers.specs.Numbering.{last, placeBehind, counted, ruleNumbersOf}
+use Rattle.placement.specs.Placement.{placementOf}
 use Rattle.placement.specs.Orientation.{holdsIn, holds, orientedOf}
 
 -- U, x, y, and a label

@@ -1,4 +1,3 @@
 pub mod Placement
 pub mod Orientation
-pub mod Line
 pub mod Told

@@ -15,7 +15,8 @@ use Rattle.model.specs.declared.Refusal.the-variants.{ExpectedLeftBelow, Expect
 use Rattle.model.specs.declared.RuleNumbersPlacement.{RuleNumbersPlacement}
 use Rattle.model.specs.declared.RuleNumbersPlacement.the-variants as numbers
 use Rattle.cells.specs.Plane.{Plane}
-use Rattle.placement.specs.Placement.{placementOf, ruleNumbersOf}
+use Rattle.rule_numbers.specs.Numbering.{ruleNumbersOf}
+use Rattle.placement.specs.Placement.{placementOf}
 use Rattle.placement.specs.declared.Oriented.{Oriented}
 
 -- a cell of a kind stands in a plane

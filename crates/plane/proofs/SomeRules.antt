@@ -18,7 +18,8 @@ use Rattle.model.specs.declared.RuleNumbersPlacement.{RuleNumbersPlacement}
 use Rattle.model.specs.declared.RuleNumbersPlacement.the-variants as numbers
 use Rattle.cells.specs.Plane.{Plane}
 use Rattle.placement.specs.Orientation.{asRows, asColumns, asCrossTab, orientedBy, orientedOf, holds}
-use Rattle.placement.specs.Placement.{placementOf, numbersLeft, numbersRight, rightOf, ruleNumbersOf}
+use Rattle.rule_numbers.specs.Numbering.{numbersLeft, numbersRight, rightOf, ruleNumbersOf}
+use Rattle.placement.specs.Placement.{placementOf}
 use Rattle.placement.specs.declared.Oriented.{Oriented}
 use Rattle.turning.specs.Upright.{uprightOf}
 use Rattle.plane.specs.Sheet.{Sheet, statedSheet}

@@ -11,7 +11,8 @@ use Rattle.model.specs.declared.Refusal.{Refusal}
 use Rattle.cells.specs.Held.{Held}
 use Rattle.cells.specs.Plane.{Plane, planeIn, PlaneFits}
 use Rattle.placement.specs.Orientation.{holds, orientedBy, orientedOf}
-use Rattle.placement.specs.Placement.{placementOf, ruleNumbersOf}
+use Rattle.rule_numbers.specs.Numbering.{ruleNumbersOf}
+use Rattle.placement.specs.Placement.{placementOf}
 use Rattle.placement.specs.declared.Oriented.{Oriented}
 use Rattle.placement.proofs.CornerLaws.{placed-rows}
 use Rattle.model.specs.declared.Cell.the-variants.{HorizontalDoubleCrossing, VerticalDoubleCrossing}

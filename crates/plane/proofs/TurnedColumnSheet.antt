@@ -30,7 +30,8 @@ use Rattle.model.specs.declared.RuleNumbersPlacement.{RuleNumbersPlacement}
 use Rattle.model.specs.declared.RuleNumbersPlacement.the-variants as numbers
 use Rattle.cells.specs.Plane.{Plane}
 use Rattle.placement.specs.Orientation.{holdsIn, holds, asRows, asColumns, asCrossTab, orientedBy, orientedOf}
-use Rattle.placement.specs.Placement.{first, last, policyIn, cornerPolicy, bottomLeft, placementOf, placeBehind, counted, countedBehind, numbersLeft, numbersRight, rightOf, ruleNumbersOf}
+use Rattle.rule_numbers.specs.Numbering.{first, last, placeBehind, counted, countedBehind, numbersLeft, numbersRight, rightOf, ruleNumbersOf}
+use Rattle.placement.specs.Placement.{policyIn, cornerPolicy, bottomLeft, placementOf}
 use Rattle.placement.specs.declared.Oriented.{Oriented}
 use Rattle.turning.specs.Upright.{butLast, wide, turned, pivotOf, uprightOf}
 use Rattle.plane.specs.Sheet.{Sheet, statedSheet, lastFirst}

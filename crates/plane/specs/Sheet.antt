@@ -8,7 +8,7 @@ use Rattle.model.specs.declared.HitPolicy.{HitPolicy}
 use Rattle.model.specs.declared.Orientation.{Orientation}
 use Rattle.cells.specs.Plane.{Plane}
 use Rattle.placement.specs.Orientation.{orientedOf}
-use Rattle.placement.specs.Placement.{last}
+use Rattle.rule_numbers.specs.Numbering.{last}
 use Rattle.turning.specs.Upright.{butLast, uprightOf}
 
 pub record Sheet : Type 0 where

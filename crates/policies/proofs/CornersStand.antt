@@ -15,7 +15,8 @@ use Rattle.model.specs.declared.HitPolicy.{HitPolicy}
 use Rattle.model.specs.declared.HitPolicyPlacement.{HitPolicyPlacement}
 use Rattle.model.specs.declared.HitPolicyPlacement.the-variants.{TopLeft, BottomLeft, NotPresent}
 use Rattle.cells.specs.Plane.{Plane}
-use Rattle.placement.specs.Placement.{first, last, policyIn, numberIn, cornerPolicy, bottomLeft, placementOf, counted}
+use Rattle.rule_numbers.specs.Numbering.{first, last, numberIn, counted}
+use Rattle.placement.specs.Placement.{policyIn, cornerPolicy, bottomLeft, placementOf}
 use Rattle.policies.proofs.RowsHaveCells.{HasCells}
 use Rattle.policies.proofs.NeverLaws.{Never, never-if, never-some}
 

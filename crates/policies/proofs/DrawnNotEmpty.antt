@@ -9,7 +9,8 @@ use Rattle.model.specs.Refusals.{Reading}
 use Rattle.model.specs.declared.Refusal.the-variants.{PlaneEmpty}
 use Rattle.cells.specs.Plane.{TextPlane}
 use Rattle.outline.specs.declared.Outline.{Outline}
-use Rattle.placement.specs.Placement.{first, placementOf, counted}
+use Rattle.rule_numbers.specs.Numbering.{first, counted}
+use Rattle.placement.specs.Placement.{placementOf}
 use Rattle.scan.specs.Canvas.{rowsAt}
 use Rattle.walks.specs.Frame.{FrameFinder}
 use Rattle.canvas.specs.Layers.{sheetBy}

@@ -26,7 +26,8 @@ use Rattle.model.specs.declared.RuleNumbersPlacement.the-variants as place
 use Rattle.cells.specs.Plane.{Plane}
 use Rattle.record.specs.Policy.{Text}
 use Rattle.placement.specs.Orientation.{asRows, asColumns, asCrossTab, orientedBy, orientedOf, holds}
-use Rattle.placement.specs.Placement.{first, last, placeBehind, numberIn, placementOf, counted, countedBehind, numbersLeft, numbersRight, rightOf, ruleNumbersOf}
+use Rattle.rule_numbers.specs.Numbering.{first, last, placeBehind, numberIn, counted, countedBehind, numbersLeft, numbersRight, rightOf, ruleNumbersOf}
+use Rattle.placement.specs.Placement.{placementOf}
 use Rattle.turning.specs.Upright.{butLast, wide, pivotOf, uprightOf}
 use Rattle.plane.specs.Sheet.{statedSheet}
 use Rattle.allowed.specs.Allowed.{allowedTwo, allowedThree, allowedOf}

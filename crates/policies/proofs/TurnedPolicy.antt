@@ -19,7 +19,7 @@ use Rattle.model.specs.declared.Orientation.the-variants.{RulesAsRows, RulesAsC
 use Rattle.cells.specs.Plane.{Plane, TextPlane}
 use Rattle.record.specs.Policy.{Policy}
 use Rattle.lent.specs.LentPlane.{LentPlane, cut, lentCells, lentOf}
-use Rattle.placement.specs.Placement.{last}
+use Rattle.rule_numbers.specs.Numbering.{last}
 use Rattle.turning.specs.Upright.{butLast, turned}
 use Rattle.plane.specs.Sheet.{Sheet, statedSheet, lastFirst}
 use Rattle.plane.proofs.RegionsKept.{RegionsBelow, turned-below, but-below}

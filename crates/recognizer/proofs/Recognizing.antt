@@ -23,8 +23,8 @@ use Rattle.clauses.specs.declared.Shape.{Shape}
 use Rattle.clauses.proofs.Apart.{foundAs}
 use Rattle.clauses.proofs.ClausesApart.{clauses-apart}
 use Rattle.clauses.proofs.SpelledStated.{spelled-stated, counted-stated, complete-stated}
-use Rattle.slots.specs.Spelt.{Spelt}
-use Rattle.slots.specs.declared.Filled.{Filled}
+use Rattle.slot_runs.specs.Spelt.{Spelt}
+use Rattle.slot_runs.specs.declared.Filled.{Filled}
 use Rattle.slots.proofs.ShapeRoom.{room-all}
 use Rattle.writer.specs.SlotTexts.{textsFrom}
 use Rattle.recognizer.specs.StatedPolicy.{sheetPolicy, statedPolicy}

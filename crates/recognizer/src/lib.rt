@@ -13,7 +13,7 @@ ghost use Rattle.cells.specs.Plane.{planeIn};
 ghost use Rattle.cells.specs.Spans.{textIn};
 ghost use Rattle.record.specs.Policy.{Text};
 ghost use Rattle.record.specs.Slots.{slotLimit};
-ghost use Rattle.slots.specs.Spelt.{Texts};
+ghost use Rattle.slot_runs.specs.Spelt.{Texts};
 ghost use Rattle.recognizer.specs.StatedPolicy.{sheetPolicy, statedPolicy};
 ghost use Rattle.recognizer.specs.Told.{tableIn, tableRead, RecognizedHeld, WorkRoom};
 

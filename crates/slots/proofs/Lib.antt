@@ -1,5 +1,2 @@
--- Laws of texts in slots.
-pub mod SpeltLaws
-mod CellTexts
-mod ValueTexts
+-- Laws of the slots of a shape.
 pub mod ShapeRoom

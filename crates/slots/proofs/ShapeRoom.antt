@@ -13,7 +13,7 @@ use Rattle.cells.specs.Plane.{Plane}
 use Rattle.clauses.specs.Spelled.{entryTexts}
 use Rattle.clauses.specs.Told.{ShapeFits}
 use Rattle.clauses.specs.declared.Shape.{Shape}
-use Rattle.slots.specs.Spelt.{Room}
+use Rattle.slot_runs.specs.Spelt.{Room}
 
 -- the slots of a rule; of all rules, and of what stands before them too
 module _ (s : Shape) where

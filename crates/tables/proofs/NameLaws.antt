@@ -18,7 +18,7 @@ use Rattle.record.specs.Slots.{kindAt, offsetAt, lengthAt, slotLimit}
 use Rattle.cells.specs.Spans as spans
 use Rattle.cells.proofs.SpanLaws.{text-in}
 use Rattle.writer.specs.SlotTexts.{slotText, textsFrom}
-use Rattle.slots.specs.Spelt.{SlotPut}
+use Rattle.slot_runs.specs.Spelt.{SlotPut}
 use Rattle.recognizer.specs.Told.{TableHeld, tableIn}
 use Rattle.recognizer.specs.declared.SlotTable.{SlotTable}
 use Rattle.recognizer.specs.declared.Recognized.the-variants.{Stands}

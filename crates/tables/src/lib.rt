@@ -20,10 +20,10 @@ fn put_name(spans: &[u32], slots: &mut [u32], named: bool) -> usize
     ensures { λ r. ⌜ NamePut named (now (spans .entry)) (now (slots .entry)) (now (slots .exit)) r ⌝ }
 {
     if named {
-        slots::put_slot(slots, 0, PART, spans[0], spans[1]);
+        slot_runs::put_slot(slots, 0, PART, spans[0], spans[1]);
         return spans[1] as usize;
     }
-    slots::put_slot(slots, 0, ABSENT, 0, 0);
+    slot_runs::put_slot(slots, 0, ABSENT, 0, 0);
     0
 }
 

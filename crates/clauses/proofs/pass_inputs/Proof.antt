@@ -2,7 +2,8 @@
 use mathlib.Core.Path.{_∙_}
 use mathlib.Core.Logic.{⊎-elim}
 use borrow.Author.Needs.{needs}
-use Rattle.clauses.proofs.ShapeLaws.{read-if, read-not, inputs-stop, inputs-values, inputs-rows}
+use Rattle.layouts.proofs.LayoutLaws.{read-if, read-not}
+use Rattle.clauses.proofs.ShapeLaws.{inputs-stop, inputs-values, inputs-rows}
 use Rattle.clauses.proofs.pass_inputs.Statement.{statement}
 use Rattle.clauses.proofs.pass_inputs.Tie as tie
 

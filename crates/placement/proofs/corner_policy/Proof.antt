@@ -1,7 +1,7 @@
 -- `placement::corner_policy` meets its contract.
 use mathlib.Core.Path.{ap, _∙_}
 use Rattle.lists.specs.Answer.{ok}
-use Rattle.placement.proofs.TextLaws.{cell-part}
+use Rattle.rule_numbers.proofs.TextLaws.{cell-part}
 use Rattle.placement.proofs.CornerLaws.{corner-cell, corner-missing}
 use borrow.Author.Needs.{needs}
 use Rattle.placement.proofs.corner_policy.Statement.{statement}

@@ -4,9 +4,9 @@ use Prim.Native.Nat.{_+_}
 use native.Mathlib.Omega.{arith}
 use Rattle.lists.proofs.RunLaws.{length-run}
 use Rattle.clauses.specs.Spelled.{spelled}
-use Rattle.slots.specs.Spelt.{Room}
+use Rattle.slot_runs.specs.Spelt.{Room}
 use Rattle.slots.proofs.ShapeRoom.{fromInputs, fromOutputs, fromNotes, forRules, room-all}
-use Rattle.slots.proofs.SpeltLaws.{spelt-then, room-next, room-less, join-length}
+use Rattle.slot_runs.proofs.SpeltLaws.{spelt-then, room-next, room-less, join-length}
 use Rattle.slots.proofs.fill.Statement.{statement}
 use Rattle.slots.proofs.fill.Tie as tie
 

@@ -8,8 +8,8 @@ use Rattle.lists.proofs.Tests.{choose-off}
 use Rattle.cells.specs.Plane.{planeIn}
 use Rattle.cells.specs.Spans.{textIn}
 use Rattle.clauses.specs.Spelled.{whole}
-use Rattle.slots.specs.Spelt.{Room, Spelt}
-use Rattle.slots.proofs.SpeltLaws.{spelt-then, spelt-text, optional-on, room-next}
+use Rattle.slot_runs.specs.Spelt.{Room, Spelt}
+use Rattle.slot_runs.proofs.SpeltLaws.{spelt-then, spelt-text, optional-on, room-next}
 use Rattle.slots.proofs.put_input.Statement.{statement}
 use Rattle.slots.proofs.put_input.Tie as tie
 

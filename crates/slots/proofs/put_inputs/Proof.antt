@@ -6,7 +6,7 @@ use borrow.Author.Needs.{needs}
 use Rattle.cells.specs.Plane.{planeIn}
 use Rattle.cells.specs.Spans.{textIn}
 use Rattle.clauses.specs.Spelled.{joinRun, inputText}
-use Rattle.slots.proofs.SpeltLaws.{Turning, turning-start, turning-room, turning-more, turning-end, join-more}
+use Rattle.slot_runs.proofs.SpeltLaws.{Turning, turning-start, turning-room, turning-more, turning-end, join-more}
 use Rattle.slots.proofs.put_inputs.Statement.{statement}
 use Rattle.slots.proofs.put_inputs.Tie as tie
 

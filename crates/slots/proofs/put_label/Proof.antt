@@ -3,7 +3,7 @@ use mathlib.Core.Path.{sym}
 use mathlib.Core.Option.{none}
 use borrow.Author.Needs.{needs}
 use Rattle.lists.proofs.Tests.{choose-off}
-use Rattle.slots.proofs.SpeltLaws.{spelt-text, optional-on}
+use Rattle.slot_runs.proofs.SpeltLaws.{spelt-text, optional-on}
 use Rattle.slots.proofs.put_label.Statement.{statement}
 use Rattle.slots.proofs.put_label.Tie as tie
 

@@ -6,8 +6,8 @@ use Rattle.lists.proofs.Tests.{choose-off}
 use Rattle.cells.specs.Plane.{planeIn}
 use Rattle.cells.specs.Spans.{textIn}
 use Rattle.clauses.specs.Spelled.{cellText, namesRow}
-use Rattle.slots.specs.Spelt.{partOf}
-use Rattle.slots.proofs.SpeltLaws.{spelt-text, optional-on}
+use Rattle.slot_runs.specs.Spelt.{partOf}
+use Rattle.slot_runs.proofs.SpeltLaws.{spelt-text, optional-on}
 use Rattle.slots.proofs.put_name.Statement.{statement}
 use Rattle.slots.proofs.put_name.Tie as tie
 

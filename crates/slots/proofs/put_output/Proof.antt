@@ -4,9 +4,9 @@ use mathlib.Core.Option.{none}
 use native.Mathlib.Omega.{arith}
 use borrow.Author.Needs.{needs}
 use Rattle.lists.proofs.Tests.{choose-off}
-use Rattle.slots.specs.Spelt.{Room}
-use Rattle.slots.proofs.ValueTexts.{valueTexts}
-use Rattle.slots.proofs.SpeltLaws.{spelt-then, spelt-as, optional-on, room-next}
+use Rattle.slot_runs.specs.Spelt.{Room}
+use Rattle.slot_runs.proofs.ValueTexts.{valueTexts}
+use Rattle.slot_runs.proofs.SpeltLaws.{spelt-then, spelt-as, optional-on, room-next}
 use Rattle.slots.proofs.put_output.Statement.{statement}
 use Rattle.slots.proofs.put_output.Tie as tie
 

@@ -3,8 +3,8 @@ use Prim.Native.Nat.{_+_}
 use native.Mathlib.Omega.{arith}
 use borrow.Author.Needs.{needs}
 use Rattle.lists.proofs.RunLaws.{length-run}
-use Rattle.slots.specs.Spelt.{Room}
-use Rattle.slots.proofs.SpeltLaws.{spelt-then, room-next, room-less}
+use Rattle.slot_runs.specs.Spelt.{Room}
+use Rattle.slot_runs.proofs.SpeltLaws.{spelt-then, room-next, room-less}
 use Rattle.slots.proofs.put_rule.Statement.{statement}
 use Rattle.slots.proofs.put_rule.Tie as tie
 

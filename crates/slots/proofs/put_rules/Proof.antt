@@ -7,7 +7,7 @@ use Rattle.cells.specs.Spans.{textIn}
 use Rattle.cells.specs.Plane.{planeIn}
 use Rattle.clauses.specs.Spelled.{joinRun, entryTexts}
 use Rattle.slots.proofs.ShapeRoom.{forRule, fewer-rules, entry-length}
-use Rattle.slots.proofs.SpeltLaws.{Turning, turning-start, turning-room, turning-more, turning-end, join-more}
+use Rattle.slot_runs.proofs.SpeltLaws.{Turning, turning-start, turning-room, turning-more, turning-end, join-more}
 use Rattle.slots.proofs.put_rules.Statement.{statement}
 use Rattle.slots.proofs.put_rules.Tie as tie
 

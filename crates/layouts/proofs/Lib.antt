@@ -1,0 +1,3 @@
+-- Laws of cells that are read in turn, and of output clauses.
+mod PassLaws
+pub mod LayoutLaws

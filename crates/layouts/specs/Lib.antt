@@ -1,0 +1,3 @@
+pub mod Readings
+pub mod Layouts
+pub mod Told

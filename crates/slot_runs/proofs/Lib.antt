@@ -1,0 +1,4 @@
+-- Laws of texts in slots.
+pub mod SpeltLaws
+mod CellTexts
+pub mod ValueTexts
