@@ -1,9 +1,9 @@
 // What is printed for a sheet, as the judge of the Rust prints it.
 use canvas::Drawing;
-use text_planes::RegionsRead;
 use model::limits::CANVAS_SIZE;
 use outline::Outline;
 use step::PlaneMade;
+use text_planes::RegionsRead;
 ghost use Prim.Native.Nat.{_+_, _*_, _≤_};
 ghost use lib.ListN.{length};
 ghost use Rattle.lists.specs.Picture.{canvas};

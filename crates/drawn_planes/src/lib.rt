@@ -1,7 +1,7 @@
 // The plane of a drawing.
 use canvas::Drawing;
-use text_planes::PlaneRead;
 use model::Refusal;
+use text_planes::PlaneRead;
 ghost use mathlib.Core.Path.{_≡_};
 ghost use Rattle.drawn_planes.specs.DrawnTable.{namedPlane, drawnIn, DrawnHeld, DrawnRoom};
 

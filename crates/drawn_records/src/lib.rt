@@ -63,6 +63,21 @@ fn drawn_table(
     table_of(d, plane, bytes, spans, bodies, thins)
 }
 
+// The record of a table whose texts lie in the first 61,440 bytes, or its refusal.
+fn write_drawn(
+    t: Recognized,
+    bytes: &[u8],
+    slots: &[u32],
+    scratch: &mut [u8],
+    out: &mut [u8],
+) -> Outcome
+    requires { ⌜ AnswerHeld t (take textBytes (now bytes)) (now slots) × (textBytes ≤ length (now bytes)) × (3 * slotLimit ≤ length (now slots)) × (textBytes ≤ length (now scratch)) ⌝ }
+    ensures outcome { λ r. ⌜ r ≡ outcomeOf (namedTable t (take textBytes (now (bytes .entry))) (now (slots .entry))) (length (now (out .entry))) ⌝ }
+    ensures out { λ _. ⌜ now (out .exit) ≡ recordOf (namedTable t (take textBytes (now (bytes .entry))) (now (slots .entry))) (now (out .entry)) ⌝ }
+{
+    records::write_recognized(t, &bytes[0..TEXT_BYTES], slots, scratch, out)
+}
+
 // The record of a drawing.
 pub fn sheet_record(
     s: &[u8],
@@ -82,5 +97,5 @@ pub fn sheet_record(
     ensures out { λ _. ⌜ now (out .exit) ≡ recordOf (tableRead (walkedPolicy (now (s .entry)))) (now (out .entry)) ⌝ }
 {
     let t = drawn_table(s, text, thins, bodies, grid, rects, bytes, spans, plane);
-    records::write_recognized(t, &bytes[0..TEXT_BYTES], thins, scratch, out)
+    write_drawn(t, bytes, thins, scratch, out)
 }

@@ -5,7 +5,6 @@ use Rattle.model.specs.Refusals.{Reading}
 use Rattle.record.specs.Record.{Table}
 use Rattle.records.specs.Outcomes.{outcomeOf, recordOf}
 use native.Mathlib.Omega.{arith}
-use borrow.Author.Needs.{needs}
 use Rattle.drawn_records.proofs.sheet_record.Statement.{statement}
 use Rattle.drawn_records.proofs.sheet_record.Tie as tie
 
@@ -14,27 +13,17 @@ start d = d .before .before .before .before .before .before .before .before .bef
 
 -- the table that was drawn, when all is done
 abbrev drawn : tie.After-slice-known20 → tie.After-drawn-table
-drawn c = c .before .before .before .before .before .before .before .before .before .before .before .before .before .before .before .before .before .before .before .before .before .before .before .before .before .before
+drawn c = c .before .before .before .before .before .before .before .before .before .before .before .before .before .before .before .before .before .before .before .before .before .before .before .before .before
 
 drawn-table-requires : tie.Need-drawn-table-requires
 drawn-table-requires c κs = c .before .before .before .before .before .before .before .before .before .before .before .before .before .before .before .before .before .before .before .pre .0
 
-sub-write-recognized : tie.Need-sub-write-recognized
-sub-write-recognized c = search needs
-
-part-write-recognized-start : tie.Need-part-write-recognized-start
-part-write-recognized-start c = search needs
-
-part-write-recognized-end : tie.Need-part-write-recognized-end
-part-write-recognized-end c =
-    let d = c .before .before .before .before .before .before .before .before .before .before .before .before .before .before .before .before .before in
-    omega (arith, start d .pre .0 .allTexts, d .drawn-table .kept .1 .1 .1 .1 .1 .1 .0)
-
-write-recognized-requires : tie.Need-write-recognized-requires
-write-recognized-requires c κs =
-    let d = c .before .before .before .before .before .before .before .before .before .before .before .before .before .before .before .before .before .before .before .before .before in
+write-drawn-requires : tie.Need-write-drawn-requires
+write-drawn-requires c κs =
+    let d = c .before .before .before .before .before .before .before .before .before .before .before .before .before .before .before .before .before .before .before .before in
     let p = start d .pre in
-    (d .drawn-table .ensures .1, omega (arith, p .0 .layers .thin, d .drawn-table .kept .1 .1 .0), p .1)
+    let l = d .drawn-table .kept in
+    (d .drawn-table .ensures .1, omega (arith, p .0 .allTexts, l .1 .1 .1 .1 .1 .1 .0), omega (arith, p .0 .layers .thin, l .1 .1 .0), p .1)
 
 same-length : tie.Need-same-length
 same-length c = drawn c .drawn-table .kept .1 .0
@@ -61,14 +50,14 @@ same-length-8 : tie.Need-same-length-8
 same-length-8 c = drawn c .drawn-table .kept .1 .1 .1 .1 .1 .1 .0
 
 same-length-9 : tie.Need-same-length-9
-same-length-9 c = c .before .before .before .before .write-recognized .kept .1 .1 .1 .0
+same-length-9 c = c .before .before .before .before .write-drawn .kept .1 .1 .1 .0
 
 same-length-10 : tie.Need-same-length-10
-same-length-10 c = c .before .before .before .before .write-recognized .kept .1 .1 .1 .1 .0
+same-length-10 c = c .before .before .before .before .write-drawn .kept .1 .1 .1 .1 .0
 
 returns : tie.Need-returns
 returns c =
-    let w = c .before .before .before .before .write-recognized .ensures in
+    let w = c .before .before .before .before .write-drawn .ensures in
     let e = drawn c .drawn-table .ensures .0 in
     let o = start (drawn c) .args .out .now in
     (w .0 ∙ ap (λ (m : Reading Table). outcomeOf m (length o)) e, w .1 ∙ ap (λ (m : Reading Table). recordOf m o) e)
@@ -78,10 +67,7 @@ sheet-record-spec =
     tie.close
     (tie.spec
     drawn-table-requires
-    sub-write-recognized
-    part-write-recognized-start
-    part-write-recognized-end
-    write-recognized-requires
+    write-drawn-requires
     same-length
     same-length-2
     same-length-3
