@@ -42,27 +42,6 @@ fn table_of(
     }
 }
 
-// The table of a drawing. Once there is a plane the layers are not needed: the upright sheet goes where BODY was,
-// the slots where THIN was.
-fn drawn_table(
-    s: &[u8],
-    text: &mut [u32],
-    thins: &mut [u32],
-    bodies: &mut [u32],
-    grid: &mut [u32],
-    rects: &mut [u32],
-    bytes: &mut [u8],
-    spans: &mut [u32],
-    plane: &mut [u32],
-) -> Recognized
-    requires { ⌜ DrawnRoom (now text) (now thins) (now bodies) (now grid) (now rects) (now bytes) (now spans) (now plane) ⌝ }
-    ensures table { λ r. ⌜ namedTable r (take textBytes (now (bytes .exit))) (now (thins .exit)) ≡ tableRead (walkedPolicy (now (s .entry))) ⌝ }
-    ensures held { λ r. ⌜ AnswerHeld r (take textBytes (now (bytes .exit))) (now (thins .exit)) ⌝ }
-{
-    let d = drawn_planes::drawn_plane(s, text, thins, bodies, grid, rects, bytes, spans, plane);
-    table_of(d, plane, bytes, spans, bodies, thins)
-}
-
 // The record of a table whose texts lie in the first 61,440 bytes, or its refusal.
 fn write_drawn(
     t: Recognized,
@@ -78,7 +57,8 @@ fn write_drawn(
     records::write_recognized(t, &bytes[0..TEXT_BYTES], slots, scratch, out)
 }
 
-// The record of a drawing.
+// The record of a drawing. Once there is a plane the layers are not needed: the upright sheet goes where BODY was,
+// the slots where THIN was.
 pub fn sheet_record(
     s: &[u8],
     text: &mut [u32],
@@ -96,6 +76,7 @@ pub fn sheet_record(
     ensures outcome { λ r. ⌜ r ≡ outcomeOf (tableRead (walkedPolicy (now (s .entry)))) (length (now (out .entry))) ⌝ }
     ensures out { λ _. ⌜ now (out .exit) ≡ recordOf (tableRead (walkedPolicy (now (s .entry)))) (now (out .entry)) ⌝ }
 {
-    let t = drawn_table(s, text, thins, bodies, grid, rects, bytes, spans, plane);
+    let d = drawn_planes::drawn_plane(s, text, thins, bodies, grid, rects, bytes, spans, plane);
+    let t = table_of(d, plane, bytes, spans, bodies, thins);
     write_drawn(t, bytes, thins, scratch, out)
 }
