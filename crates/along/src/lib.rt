@@ -1,19 +1,20 @@
 // Walks along the lines of a drawing, each kind with its own characters.
-pub mod corners;
-pub mod double_lines;
+pub mod sets;
 
-use corners::*;
-use double_lines::*;
 use model::box_drawing::*;
+use sets::*;
+use walks::Characters;
 use walks::Direction;
+use walks::Set;
 use walks::Walked;
-use walks::go_light;
 ghost use mathlib.Core.Path.{_≡_};
 ghost use lib.ListN.{length};
 ghost use Rattle.lists.specs.Picture.{canvas};
-ghost use Rattle.walks.specs.Walk.{goOf, stepsIn};
+ghost use Rattle.walks.specs.Walk.{stepsIn};
 ghost use Rattle.walks.specs.Frame.{Place};
-ghost use Rattle.along.specs.Characters.{toward, alongOf};
+ghost use Rattle.walks.specs.Sets.{Sought};
+ghost use Rattle.walks.specs.declared.Direction.the-variants.{Left};
+ghost use Rattle.along.specs.Characters.{searchedOf, allowedOf, alongOf};
 ghost use Rattle.along.specs.declared.Lines.the-variants.{Region, Rectangle, Name, Body, Crossing};
 
 // What is walked along: the frames of THIN, those of GRID, the box of the name, the double lines to the sides of the
@@ -26,137 +27,128 @@ pub enum Lines {
     Crossing,
 }
 
-// A walk to the characters of its direction, over those of its direction.
-fn go_toward(
-    d: Direction,
-    layer: &[u32],
-    w: usize,
-    h: usize,
-    x: usize,
-    y: usize,
-    right: &[u32],
-    down: &[u32],
-    left: &[u32],
-    up: &[u32],
-    over_right: &[u32],
-    over_down: &[u32],
-    over_left: &[u32],
-    over_up: &[u32],
-) -> Walked
-    requires { ⌜ Place w h x y (length (now layer)) ⌝ }
-    ensures { λ r. ⌜ stepsIn r ≡ goOf d (canvas w h (now (layer .entry))) w h x y (toward d (now (right .entry)) (now (down .entry)) (now (left .entry)) (now (up .entry))) (toward d (now («over_right» .entry)) (now («over_down» .entry)) (now («over_left» .entry)) (now («over_up» .entry))) ⌝ }
+// Light characters, with the one that is searched first.
+fn light(searched: u64, wanted: u32, allowed: u64) -> Characters
+    ensures { λ r. ⌜ r ≡ record { searched = record { light = searched; double = 0 }; wanted = wanted; allowed = record { light = allowed; double = 0 } } ⌝ }
 {
-    match d {
-        Direction::Right => walks::go(d, layer, w, h, x, y, right, over_right),
-        Direction::Down => walks::go(d, layer, w, h, x, y, down, over_down),
-        Direction::Left => walks::go(d, layer, w, h, x, y, left, over_left),
-        Direction::Up => walks::go(d, layer, w, h, x, y, up, over_up),
+    Characters {
+        searched: Set {
+            light: searched,
+            double: 0,
+        },
+        wanted,
+        allowed: Set {
+            light: allowed,
+            double: 0,
+        },
     }
 }
 
-// Along the frames of THIN; the plain corner is searched first.
-fn along_region(d: Direction, layer: &[u32], w: usize, h: usize, x: usize, y: usize) -> Walked
-    requires { ⌜ Place w h x y (length (now layer)) ⌝ }
-    ensures { λ r. ⌜ stepsIn r ≡ alongOf Region d (canvas w h (now (layer .entry))) w h x y ⌝ }
+// Double characters, with the one that is searched first.
+fn double(searched: u64, wanted: u32, allowed: u64) -> Characters
+    ensures { λ r. ⌜ r ≡ record { searched = record { light = 0; double = searched }; wanted = wanted; allowed = record { light = 0; double = allowed } } ⌝ }
 {
-    match d {
-        Direction::Right => go_light(d, layer, w, h, x, y, TOP_RIGHT, LIGHT_DOWN_AND_LEFT, TOP),
-        Direction::Down => go_light(d, layer, w, h, x, y, BOTTOM_RIGHT, LIGHT_UP_AND_LEFT, RIGHT),
-        Direction::Left => go_light(
-            d,
-            layer,
-            w,
-            h,
-            x,
-            y,
-            BOTTOM_LEFT,
-            LIGHT_UP_AND_RIGHT,
-            BOTTOM,
-        ),
-        Direction::Up => go_light(d, layer, w, h, x, y, TOP_LEFT, LIGHT_DOWN_AND_RIGHT, LEFT),
+    Characters {
+        searched: Set {
+            light: 0,
+            double: searched,
+        },
+        wanted,
+        allowed: Set {
+            light: 0,
+            double: allowed,
+        },
     }
 }
 
-// Along the frames of GRID.
-fn along_rectangle(d: Direction, layer: &[u32], w: usize, h: usize, x: usize, y: usize) -> Walked
-    requires { ⌜ Place w h x y (length (now layer)) ⌝ }
-    ensures { λ r. ⌜ stepsIn r ≡ alongOf Rectangle d (canvas w h (now (layer .entry))) w h x y ⌝ }
+// The frames of THIN; the plain corner is searched first.
+fn region(d: Direction) -> Characters
+    ensures { λ r. ⌜ Sought r (searchedOf Region d) (allowedOf Region d) ⌝ }
 {
     match d {
-        Direction::Right => go_light(d, layer, w, h, x, y, TOP_RIGHT, GRID_FIRST, GRID_ROW),
-        Direction::Down => go_light(d, layer, w, h, x, y, BOTTOM_RIGHT, GRID_FIRST, GRID_COLUMN),
-        Direction::Left => go_light(d, layer, w, h, x, y, BOTTOM_LEFT, GRID_FIRST, GRID_ROW),
-        Direction::Up => go_light(d, layer, w, h, x, y, TOP_LEFT, GRID_FIRST, GRID_COLUMN),
+        Direction::Right => light(TOP_RIGHT, LIGHT_DOWN_AND_LEFT, TOP),
+        Direction::Down => light(BOTTOM_RIGHT, LIGHT_UP_AND_LEFT, RIGHT),
+        Direction::Left => light(BOTTOM_LEFT, LIGHT_UP_AND_RIGHT, BOTTOM),
+        Direction::Up => light(TOP_LEFT, LIGHT_DOWN_AND_RIGHT, LEFT),
     }
 }
 
-// Along the box of the name.
-fn along_name(d: Direction, layer: &[u32], w: usize, h: usize, x: usize, y: usize) -> Walked
-    requires { ⌜ Place w h x y (length (now layer)) ⌝ }
-    ensures { λ r. ⌜ stepsIn r ≡ alongOf Name d (canvas w h (now (layer .entry))) w h x y ⌝ }
+// The frames of GRID; ┼ is searched first.
+fn rectangle(d: Direction) -> Characters
+    ensures { λ r. ⌜ Sought r (searchedOf Rectangle d) (allowedOf Rectangle d) ⌝ }
 {
-    go_toward(
-        d,
-        layer,
-        w,
-        h,
-        x,
-        y,
-        &NAME_TOP_RIGHT,
-        &NAME_BOTTOM_RIGHT,
-        &NAME_BOTTOM_LEFT,
-        &NAME_TOP_LEFT,
-        &ROW_SIDE,
-        &COLUMN_SIDE,
-        &NAME_BOTTOM,
-        &COLUMN_SIDE,
-    )
+    match d {
+        Direction::Right => light(TOP_RIGHT, LIGHT_VERTICAL_AND_HORIZONTAL, ROW),
+        Direction::Down => light(BOTTOM_RIGHT, LIGHT_VERTICAL_AND_HORIZONTAL, COLUMN),
+        Direction::Left => light(BOTTOM_LEFT, LIGHT_VERTICAL_AND_HORIZONTAL, ROW),
+        Direction::Up => light(TOP_LEFT, LIGHT_VERTICAL_AND_HORIZONTAL, COLUMN),
+    }
 }
 
-// Along the double lines, to the sides of the body.
-fn along_body(d: Direction, layer: &[u32], w: usize, h: usize, x: usize, y: usize) -> Walked
-    requires { ⌜ Place w h x y (length (now layer)) ⌝ }
-    ensures { λ r. ⌜ stepsIn r ≡ alongOf Body d (canvas w h (now (layer .entry))) w h x y ⌝ }
+// The bottom side of the name's box.
+fn name_bottom() -> Characters
+    ensures { λ r. ⌜ Sought r (searchedOf Name Left) (allowedOf Name Left) ⌝ }
 {
-    go_toward(
-        d,
-        layer,
-        w,
-        h,
-        x,
-        y,
-        &BODY_RIGHT,
-        &BODY_BOTTOM,
-        &BODY_LEFT,
-        &BODY_TOP,
-        &TO_RIGHT,
-        &TO_BOTTOM,
-        &TO_LEFT,
-        &TO_TOP,
-    )
+    Characters {
+        searched: Set {
+            light: NAME_BOTTOM_LEFT,
+            double: 0,
+        },
+        wanted: LIGHT_VERTICAL_AND_RIGHT,
+        allowed: Set {
+            light: NAME_BOTTOM,
+            double: NAME_BOTTOM_DOUBLE,
+        },
+    }
 }
 
-// Along the double lines, to an annotation crossing.
-fn along_crossing(d: Direction, layer: &[u32], w: usize, h: usize, x: usize, y: usize) -> Walked
-    requires { ⌜ Place w h x y (length (now layer)) ⌝ }
-    ensures { λ r. ⌜ stepsIn r ≡ alongOf Crossing d (canvas w h (now (layer .entry))) w h x y ⌝ }
+// The box of the name.
+fn name(d: Direction) -> Characters
+    ensures { λ r. ⌜ Sought r (searchedOf Name d) (allowedOf Name d) ⌝ }
 {
-    go_toward(
-        d,
-        layer,
-        w,
-        h,
-        x,
-        y,
-        &CROSSING,
-        &CROSSING,
-        &CROSSING,
-        &CROSSING,
-        &ACROSS,
-        &DOWN,
-        &ACROSS,
-        &DOWN,
-    )
+    match d {
+        Direction::Right => light(NAME_TOP_RIGHT, LIGHT_DOWN_AND_LEFT, ROW),
+        Direction::Down => light(NAME_BOTTOM_RIGHT, LIGHT_UP_AND_HORIZONTAL, COLUMN),
+        Direction::Left => name_bottom(),
+        Direction::Up => light(NAME_TOP_LEFT, LIGHT_DOWN_AND_RIGHT, COLUMN),
+    }
+}
+
+// The double lines, to the sides of the body.
+fn body(d: Direction) -> Characters
+    ensures { λ r. ⌜ Sought r (searchedOf Body d) (allowedOf Body d) ⌝ }
+{
+    match d {
+        Direction::Right => double(BODY_RIGHT, VERTICAL_SINGLE_AND_LEFT_DOUBLE, TO_RIGHT),
+        Direction::Down => double(BODY_BOTTOM, UP_DOUBLE_AND_HORIZONTAL_SINGLE, TO_BOTTOM),
+        Direction::Left => double(BODY_LEFT, VERTICAL_SINGLE_AND_RIGHT_DOUBLE, TO_LEFT),
+        Direction::Up => double(BODY_TOP, DOWN_DOUBLE_AND_HORIZONTAL_SINGLE, TO_TOP),
+    }
+}
+
+// The double lines, to an annotation crossing.
+fn crossing(d: Direction) -> Characters
+    ensures { λ r. ⌜ Sought r (searchedOf Crossing d) (allowedOf Crossing d) ⌝ }
+{
+    match d {
+        Direction::Right => double(CROSSING, DOUBLE_VERTICAL_AND_HORIZONTAL, ACROSS),
+        Direction::Down => double(CROSSING, DOUBLE_VERTICAL_AND_HORIZONTAL, DOWN),
+        Direction::Left => double(CROSSING, DOUBLE_VERTICAL_AND_HORIZONTAL, ACROSS),
+        Direction::Up => double(CROSSING, DOUBLE_VERTICAL_AND_HORIZONTAL, DOWN),
+    }
+}
+
+// What a walk along lines searches for and goes over.
+fn characters(lines: Lines, d: Direction) -> Characters
+    ensures { λ r. ⌜ Sought r (searchedOf lines d) (allowedOf lines d) ⌝ }
+{
+    match lines {
+        Lines::Region => region(d),
+        Lines::Rectangle => rectangle(d),
+        Lines::Name => name(d),
+        Lines::Body => body(d),
+        Lines::Crossing => crossing(d),
+    }
 }
 
 // Along lines of any kind.
@@ -172,11 +164,5 @@ pub fn along(
     requires { ⌜ Place w h x y (length (now layer)) ⌝ }
     ensures { λ r. ⌜ stepsIn r ≡ alongOf lines d (canvas w h (now (layer .entry))) w h x y ⌝ }
 {
-    match lines {
-        Lines::Region => along_region(d, layer, w, h, x, y),
-        Lines::Rectangle => along_rectangle(d, layer, w, h, x, y),
-        Lines::Name => along_name(d, layer, w, h, x, y),
-        Lines::Body => along_body(d, layer, w, h, x, y),
-        Lines::Crossing => along_crossing(d, layer, w, h, x, y),
-    }
+    walks::go(d, layer, w, h, x, y, characters(lines, d))
 }

@@ -1,21 +1,51 @@
--- One computed test says that a walk's sets are those of two lists: `sets-of`.
-use mathlib.Core.Path.{_≡_, refl, sym, ap, _∙_}
+-- One computed test says that a walk's sets are those of two lists: `sought`.
+use mathlib.Core.Path.{_≡_, refl, sym, ap, _∙_, subst}
 use mathlib.Core.Bool.{Bool, true, false, _&&_, Bool·beq}
 use mathlib.Core.List.{List, [], _∷_}
-use Prim.Native.Nat.{ℕ, _-_, _/_, _%_, _^_, _≤_, _<_}
+use Prim.Native.Nat.{ℕ, _+_, _-_, _/_, _%_, _^_, _≤_, _<_}
 use lib.Dec.{eqb, leb, ltb}
 use lib.ListN.{getD}
-use borrow.Author.Tests.{ne-eqb, eqb-true, leb-true, ltb-true, lt-ltb, le-ltb, le-leb, lt-leb}
+use native.Mathlib.Omega.{arith}
+use borrow.Author.Tests.{ne-eqb, eqb-true, leb-true, leb-false, ltb-true, ltb-false, lt-ltb, le-ltb, le-leb, lt-leb}
+use Rattle.lists.specs.Choose.{choose}
 use Rattle.lists.specs.OneOf.{oneOf}
 use Rattle.lists.proofs.OneOfLaws.{allKeys}
 use Rattle.lists.proofs.Tests.{by-flag, true-false, both}
-use Rattle.walks.specs.Sets.{light, holds, SetOf, SetsOf}
+use Rattle.walks.specs.Sets.{among, hasBit, holds, SetOf, Sought}
 use Rattle.walks.specs.Sides.{allFrom}
+use Rattle.walks.specs.declared.Characters.{Characters}
+use Rattle.walks.specs.declared.Set.{Set}
 use Rattle.walks.proofs.SidesLaws.{all-true}
 
--- a test that a set is that of a list: at each of the 64 characters, and the list has no other
-abbrev pub setb : ℕ → List ℕ → Bool
-setb set codes = allFrom (λ c. Bool·beq (holds set c) (oneOf c codes)) 0x2500 64 && allKeys light codes
+-- which characters a number has not, and what it says of the others
+pub bit-below : (bits first c : ℕ) → c < first → hasBit bits first c ≡ false
+unfolding hasBit
+bit-below bits first c h = rw (lt-leb first c h)
+
+pub bit-above : (bits first c : ℕ) → first ≤ c → first + 64 ≤ c → hasBit bits first c ≡ false
+unfolding hasBit
+bit-above bits first c l h = rw (le-leb first c l, le-ltb c (first + 64) h)
+
+pub bit-in : (bits first c : ℕ) → first ≤ c → c < first + 64 → hasBit bits first c ≡ eqb (bits / 2 ^ (c - first) % 2) 1
+unfolding hasBit
+bit-in bits first c l h = rw (le-leb first c l, lt-ltb c (first + 64) h)
+
+-- the number that has a character of a set
+pub held-light : (set : Set) (c : ℕ) → c < 0x2540 → holds set c ≡ hasBit (set .light) 0x2500 c
+unfolding holds
+held-light set c h = rw (lt-ltb c 0x2540 h)
+
+pub held-double : (set : Set) (c : ℕ) → 0x2540 ≤ c → holds set c ≡ hasBit (set .double) 0x2540 c
+unfolding holds
+held-double set c h = rw (le-ltb c 0x2540 h)
+
+-- the characters that a set can have
+abbrev boxed : ℕ → Bool
+boxed c = among 0x2500 128 c
+
+-- a test that a set is that of a list: at each of the 128 characters, and the list has no other
+abbrev pub setb : Set → List ℕ → Bool
+setb set codes = allFrom (λ c. Bool·beq (holds set c) (oneOf c codes)) 0x2500 128 && allKeys boxed codes
 
 beq-true : (a b : Bool) → Bool·beq a b ≡ true → a ≡ b
 beq-true true true e = refl
@@ -24,48 +54,48 @@ beq-true true false e = sym e
 beq-true false true e = e
 
 -- no other character is held, or listed
-held-out : (set c : ℕ) → light c ≡ false → holds set c ≡ false
-unfolding holds
-held-out set c e = rw e
+held-out : (set : Set) (c : ℕ) → boxed c ≡ false → holds set c ≡ false
+held-out set c e =
+    by-flag (leb 0x2500 c)
+    (λ l.
+    by-flag (ltb c 0x2580) (λ h. absurd (true-false (rw (l, h)) e))
+    (λ h.
+    let above : 0x2580 ≤ c = ltb-false c 0x2580 h in
+    held-double set c (omega (arith, above)) ∙ bit-above (set .double) 0x2540 c (omega (arith, above)) above))
+    (λ l.
+    let below : c < 0x2500 = leb-false 0x2500 c l in
+    held-light set c (omega (arith, below)) ∙ bit-below (set .light) 0x2500 c below)
 
-listed-out : (codes : List ℕ) (c : ℕ) → allKeys light codes ≡ true → light c ≡ false → oneOf c codes ≡ false
+listed-out : (codes : List ℕ) (c : ℕ) → allKeys boxed codes ≡ true → boxed c ≡ false → oneOf c codes ≡ false
 unfolding oneOf
 listed-out [] c e o = refl
 listed-out (k ∷ ks) c e o =
-    let b = both (light k) (allKeys light ks) e in
-    rw (ne-eqb c k (λ q. true-false (b .0) (ap light (sym q) ∙ o))) (listed-out ks c (b .1) o)
+    let b = both (boxed k) (allKeys boxed ks) e in
+    rw (ne-eqb c k (λ q. true-false (b .0) (ap boxed (sym q) ∙ o))) (listed-out ks c (b .1) o)
 
--- which characters are out, and what is held of the others
-pub held-below : (set c : ℕ) → c < 0x2500 → holds set c ≡ false
-held-below set c h = held-out set c (rw (lt-leb 0x2500 c h))
-
-pub held-above : (set c : ℕ) → 0x2500 ≤ c → 0x2540 ≤ c → holds set c ≡ false
-held-above set c l h = held-out set c (rw (le-leb 0x2500 c l, le-ltb c 0x2540 h))
-
-pub held-in : (set c : ℕ) → 0x2500 ≤ c → c < 0x2540 → holds set c ≡ eqb (set / 2 ^ (c - 0x2500) % 2) 1
-unfolding holds
-held-in set c l h = rw (le-leb 0x2500 c l, lt-ltb c 0x2540 h)
-
-pub set-of : (set : ℕ) (codes : List ℕ) → setb set codes ≡ true → SetOf set codes
+pub set-of : (set : Set) (codes : List ℕ) → setb set codes ≡ true → SetOf set codes
 set-of set codes e c =
-    let b = both (allFrom (λ c. Bool·beq (holds set c) (oneOf c codes)) 0x2500 64) (allKeys light codes) e in
-    by-flag (light c)
+    let b = both (allFrom (λ c. Bool·beq (holds set c) (oneOf c codes)) 0x2500 128) (allKeys boxed codes) e in
+    by-flag (boxed c)
     (λ i.
-    let r = both (leb 0x2500 c) (ltb c 0x2540) i in
+    let r = both (leb 0x2500 c) (ltb c 0x2580) i in
     let low : 0x2500 ≤ c = leb-true 0x2500 c (r .0) in
-    let high : c < 0x2540 = ltb-true c 0x2540 (r .1) in
-    beq-true (holds set c) (oneOf c codes) (all-true (λ c. Bool·beq (holds set c) (oneOf c codes)) 0x2500 64 (b .0) c low high))
+    let high : c < 0x2580 = ltb-true c 0x2580 (r .1) in
+    beq-true (holds set c) (oneOf c codes) (all-true (λ c. Bool·beq (holds set c) (oneOf c codes)) 0x2500 128 (b .0) c low high))
     (λ o. held-out set c o ∙ sym (listed-out codes c (b .1) o))
 
-abbrev pub setsb : ℕ → ℕ → ℕ → List ℕ → List ℕ → Bool
-setsb searched wanted allowed s a = (setb searched s && setb allowed a) && eqb wanted (getD s 0 0)
+abbrev pub soughtb : Characters → List ℕ → List ℕ → Bool
+soughtb c s a = (setb (c .searched) s && setb (c .allowed) a) && eqb (c .wanted) (getD s 0 0)
 
-pub sets-of : (searched wanted allowed : ℕ) (s a : List ℕ) → setsb searched wanted allowed s a ≡ true → SetsOf searched wanted allowed s a
-sets-of searched wanted allowed s a e =
-    let b = both (setb searched s && setb allowed a) (eqb wanted (getD s 0 0)) e in
-    let t = both (setb searched s) (setb allowed a) (b .0) in
+pub sought : (c : Characters) (s a : List ℕ) → soughtb c s a ≡ true → Sought c s a
+sought c s a e =
+    let b = both (setb (c .searched) s && setb (c .allowed) a) (eqb (c .wanted) (getD s 0 0)) e in
+    let t = both (setb (c .searched) s) (setb (c .allowed) a) (b .0) in
     record {
-      ends = set-of searched s (t .0);
-      first = eqb-true wanted (getD s 0 0) (b .1);
-      passes = set-of allowed a (t .1);
+      ends = set-of (c .searched) s (t .0);
+      first = eqb-true (c .wanted) (getD s 0 0) (b .1);
+      passes = set-of (c .allowed) a (t .1);
     }
+
+pub told : {r c : Characters} {s a : List ℕ} → r ≡ c → soughtb c s a ≡ true → Sought r s a
+told {r} {c} {s} {a} e t = subst (λ (q : Characters). Sought q s a) (sym e) (sought c s a t)

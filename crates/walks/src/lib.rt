@@ -4,12 +4,11 @@ use model::Refusal;
 ghost use mathlib.Core.Path.{_≡_};
 ghost use mathlib.Core.List.{List};
 ghost use Prim.Native.Nat.{ℕ, _+_, _<_, _^_};
-ghost use lib.ListN.{length, getD};
-ghost use Rattle.lists.specs.OneOf.{oneOf};
+ghost use lib.ListN.{length};
 ghost use Rattle.lists.specs.Picture.{canvas};
 ghost use Rattle.walks.specs.Walk.{walkOf, ahead, goOf, stepsIn};
 ghost use Rattle.walks.specs.Frame.{Place};
-ghost use Rattle.walks.specs.Sets.{holds, SetsOf};
+ghost use Rattle.walks.specs.Sets.{hasBit, holds, Sought};
 ghost use Rattle.walks.specs.Line.{backOf, stepOf, lineOf, Reach, nextOf, NextFits};
 
 pub enum Direction {
@@ -31,25 +30,17 @@ pub enum Framed {
     NotFramed(Refusal),
 }
 
-// Whether a character is one of some.
-pub fn one_of(codes: &[u32], code: u32) -> bool
-    ensures { λ r. ⌜ r ≡ oneOf code (now (codes .entry)) ⌝ }
-{
-    let mut i = 0;
-    while i < codes.len() {
-        if code == codes[i] {
-            return true;
-        }
-        i += 1;
-    }
-    false
+// A set of box characters: bit k of `light` is for the character 0x2500 + k, bit k of `double` for 0x2540 + k.
+pub struct Set {
+    pub light: u64,
+    pub double: u64,
 }
 
-// The first of some characters, or 0.
-fn first(codes: &[u32]) -> u32
-    ensures { λ r. ⌜ r ≡ getD (now (codes .entry)) 0 0 ⌝ }
-{
-    if 0 < codes.len() { codes[0] } else { 0 }
+// What a walk searches for, with the first of it by itself, and what it goes over.
+pub struct Characters {
+    pub searched: Set,
+    pub wanted: u32,
+    pub allowed: Set,
 }
 
 // The place one step on.
@@ -63,6 +54,35 @@ fn next(back: bool, p: usize, step: usize) -> usize
 // More than any character.
 const NO_CHARACTER: u64 = 0x1_0000_0000;
 
+// The first characters that the two numbers of a set can have.
+const FIRST_LIGHT: u32 = 0x2500;
+
+const FIRST_DOUBLE: u32 = 0x2540;
+
+// Whether a number has a character, of the 64 from `first` on.
+fn has_bit(bits: u64, first: u32, code: u32) -> bool
+    ensures { λ r. ⌜ r ≡ hasBit bits first code ⌝ }
+{
+    if code < first {
+        return false;
+    }
+    let k = code - first;
+    if 64 <= k {
+        return false;
+    }
+    (bits >> k) % 2 == 1
+}
+
+// Whether a set has a character.
+fn holds(set: Set, code: u32) -> bool
+    ensures { λ r. ⌜ r ≡ holds set code ⌝ }
+{
+    if code < FIRST_DOUBLE {
+        return has_bit(set.light, FIRST_LIGHT, code);
+    }
+    has_bit(set.double, FIRST_DOUBLE, code)
+}
+
 // Over `count` characters of a layer from `at`, which itself is not looked at. The last character that was tested and passed is kept, and
 // passed again with no test: a side is a long run of one.
 fn walk_line(
@@ -71,11 +91,10 @@ fn walk_line(
     at: usize,
     step: usize,
     count: usize,
-    searched: &[u32],
-    allowed: &[u32],
+    c: Characters,
 ) -> Walked
     requires { ⌜ Reach back at step count (length (now layer)) ⌝ }
-    ensures { λ r. ⌜ stepsIn r ≡ walkOf (lineOf (now (layer .entry)) back at step) (now (searched .entry)) (now (allowed .entry)) count ⌝ }
+    ensures { λ r. ⌜ ((s a : List ℕ) → Sought c s a → stepsIn r ≡ walkOf (lineOf (now (layer .entry)) back at step) s a count) ⌝ }
 {
     let mut p = at;
     let mut k = 0;
@@ -85,67 +104,16 @@ fn walk_line(
         k += 1;
         let code = layer[p];
         if code as u64 != kept {
-            if one_of(searched, code) {
+            if holds(c.searched, code) {
                 return Walked::Steps(k);
             }
-            if !one_of(allowed, code) {
+            if !holds(c.allowed, code) {
                 return Walked::Stopped(Refusal::CharacterNotAllowed(code));
             }
             kept = code as u64;
         }
     }
-    Walked::Stopped(Refusal::CharactersNotFound(first(searched)))
-}
-
-// The first character that a set can have.
-const FIRST_LIGHT: u32 = 0x2500;
-
-// Whether a set of light characters has a character.
-fn holds(set: u64, code: u32) -> bool
-    ensures { λ r. ⌜ r ≡ holds set code ⌝ }
-{
-    if code < FIRST_LIGHT {
-        return false;
-    }
-    let k = code - FIRST_LIGHT;
-    if 64 <= k {
-        return false;
-    }
-    (set >> k) % 2 == 1
-}
-
-// As `walk_line`, with the characters as sets and the first searched one by itself.
-fn walk_light(
-    layer: &[u32],
-    back: bool,
-    at: usize,
-    step: usize,
-    count: usize,
-    searched: u64,
-    wanted: u32,
-    allowed: u64,
-) -> Walked
-    requires { ⌜ Reach back at step count (length (now layer)) ⌝ }
-    ensures { λ r. ⌜ ((s a : List ℕ) → SetsOf searched wanted allowed s a → stepsIn r ≡ walkOf (lineOf (now (layer .entry)) back at step) s a count) ⌝ }
-{
-    let mut p = at;
-    let mut k = 0;
-    let mut kept = NO_CHARACTER;
-    while k < count {
-        p = next(back, p, step);
-        k += 1;
-        let code = layer[p];
-        if code as u64 != kept {
-            if holds(searched, code) {
-                return Walked::Steps(k);
-            }
-            if !holds(allowed, code) {
-                return Walked::Stopped(Refusal::CharacterNotAllowed(code));
-            }
-            kept = code as u64;
-        }
-    }
-    Walked::Stopped(Refusal::CharactersNotFound(wanted))
+    Walked::Stopped(Refusal::CharactersNotFound(c.wanted))
 }
 
 // Whether a direction goes backwards through a layer.
@@ -193,11 +161,10 @@ pub fn go(
     h: usize,
     x: usize,
     y: usize,
-    searched: &[u32],
-    allowed: &[u32],
+    c: Characters,
 ) -> Walked
     requires { ⌜ Place w h x y (length (now layer)) ⌝ }
-    ensures { λ r. ⌜ stepsIn r ≡ goOf d (canvas w h (now (layer .entry))) w h x y (now (searched .entry)) (now (allowed .entry)) ⌝ }
+    ensures { λ r. ⌜ ((s a : List ℕ) → Sought c s a → stepsIn r ≡ goOf d (canvas w h (now (layer .entry))) w h x y s a) ⌝ }
 {
     walk_line(
         layer,
@@ -205,34 +172,6 @@ pub fn go(
         y * w + x,
         step_of(d, w),
         ahead(d, w, h, x, y),
-        searched,
-        allowed,
-    )
-}
-
-// The same along light lines, with the characters as sets and the first searched one by itself.
-pub fn go_light(
-    d: Direction,
-    layer: &[u32],
-    w: usize,
-    h: usize,
-    x: usize,
-    y: usize,
-    searched: u64,
-    wanted: u32,
-    allowed: u64,
-) -> Walked
-    requires { ⌜ Place w h x y (length (now layer)) ⌝ }
-    ensures { λ r. ⌜ ((s a : List ℕ) → SetsOf searched wanted allowed s a → stepsIn r ≡ goOf d (canvas w h (now (layer .entry))) w h x y s a) ⌝ }
-{
-    walk_light(
-        layer,
-        is_back(d),
-        y * w + x,
-        step_of(d, w),
-        ahead(d, w, h, x, y),
-        searched,
-        wanted,
-        allowed,
+        c,
     )
 }

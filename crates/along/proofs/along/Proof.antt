@@ -7,10 +7,5 @@ pub along-spec : {M : Type 1} → statement M
 along-spec =
     tie.close
     (tie.spec
-    (λ c. search needs) (λ c κs. search needs) (λ c. search needs) (λ c κs. search needs) (λ c. search needs) (λ c κs. search needs)
-    (λ c. search needs) (λ c κs. search needs) (λ c. search needs) (λ c κs. search needs)
-    (λ c. rw (c .before .enum-told .given .1) (c .along-region .ensures))
-    (λ c. rw (c .before .enum-told2 .given .1) (c .along-rectangle .ensures))
-    (λ c. rw (c .before .enum-told3 .given .1) (c .along-name .ensures))
-    (λ c. rw (c .before .enum-told4 .given .1) (c .along-body .ensures))
-    (λ c. rw (c .before .enum-told5 .given .1) (c .along-crossing .ensures)))
+    (λ c κs. search needs) (λ c κs. search needs)
+    (λ c. c .go .ensures _ _ (c .before .characters .ensures)))

@@ -17,10 +17,10 @@ is-back-requires : tie.Need-is-back-requires
 is-back-requires c κs = search needs
 
 mul-walk-line : tie.Need-mul-walk-line
-mul-walk-line c = let t = c .before .before .before .before in omega (arith, here t, t .good .1 .0 .0)
+mul-walk-line c = let t = c .before .before in omega (arith, here t, t .good .1 .0 .0)
 
 add-walk-line : tie.Need-add-walk-line
-add-walk-line c = let t = c .before .before .before .before in omega (arith, here t, t .good .1 .0 .0)
+add-walk-line c = let t = c .before .before in omega (arith, here t, t .good .1 .0 .0)
 
 step-of-requires : tie.Need-step-of-requires
 step-of-requires c κs = search needs
@@ -30,18 +30,18 @@ ahead-requires c κs = search needs
 
 walk-line-requires : tie.Need-walk-line-requires
 walk-line-requires c κs =
-    let t = c .before .before .before .before .before .before in
+    let t = c .before .before .before .before in
     let a = t .args in
     rw (c .before .before .is-back .ensures, c .before .step-of .ensures, c .ahead .ensures)
     (dir-reach (a .w) (a .h) (a .x) (a .y) (length (a .layer .now)) (t .pre) (a .d))
 
 returns : tie.Need-returns
-returns c =
+returns c ss aa e =
     let g = c .before in
-    let t = g .before .before .before .before .before .before in
+    let t = g .before .before .before .before in
     let a = t .args in
-    rw (g .before .before .is-back .ensures, g .before .step-of .ensures, g .ahead .ensures) at (c .walk-line .ensures)
-    ∙ dir-walk (a .w) (a .h) (a .x) (a .y) (length (a .layer .now)) (t .pre) (a .d) (a .layer .now) (a .searched .now) (a .allowed .now)
+    rw (g .before .before .is-back .ensures, g .before .step-of .ensures, g .ahead .ensures) at (c .walk-line .ensures ss aa e)
+    ∙ dir-walk (a .w) (a .h) (a .x) (a .y) (length (a .layer .now)) (t .pre) (a .d) (a .layer .now) ss aa
 
 pub go-spec : {M : Type 1} → statement M
 go-spec =
