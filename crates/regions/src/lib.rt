@@ -25,17 +25,11 @@ pub enum Counted {
     NotCounted(Refusal),
 }
 
-// Whether a frame starts at a character.
+// Whether a frame starts at a character. The four corners differ in bits 4 and 5 alone.
 pub fn is_corner(code: u32) -> bool
     ensures { λ r. ⌜ r ≡ isCorner code ⌝ }
 {
-    match code {
-        LIGHT_DOWN_AND_RIGHT => true,
-        LIGHT_VERTICAL_AND_RIGHT => true,
-        LIGHT_DOWN_AND_HORIZONTAL => true,
-        LIGHT_VERTICAL_AND_HORIZONTAL => true,
-        _ => false,
-    }
+    code & 0xFFFF_FFCF == LIGHT_DOWN_AND_RIGHT
 }
 
 // The first corner from place i on, or `size`.
