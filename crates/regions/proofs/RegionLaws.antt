@@ -10,10 +10,10 @@ use lib.Dec.{ltb}
 use borrow.Author.Tests.{lt-ltb, le-ltb, ltb-true}
 use Rattle.lists.specs.Answer.{ok, refused, _>>=_, each, those, Below}
 use Rattle.lists.specs.Choose.{choose}
-use Rattle.lists.specs.Picture.{Picture, at}
+use Rattle.lists.specs.Picture.{Picture, canvas, at}
 use Rattle.lists.specs.Run.{run}
-use Rattle.lists.proofs.AnswerLaws.{refused-ok, then-ok, those-next, turn-on, turn-out, turn-end, each-below}
-use Rattle.lists.proofs.PlaceLaws.{columns, column-in, row-in}
+use Rattle.lists.proofs.AnswerLaws.{refused-ok, then-ok, those-next, those-from, turn-on, turn-out, turn-end, each-below}
+use Rattle.lists.proofs.PlaceLaws.{column-in, row-in, at-canvas}
 use Rattle.lists.proofs.RunLaws.{length-run}
 use Rattle.model.specs.Limits.{regionCount}
 use Rattle.model.specs.Refusals.{Reading}
@@ -22,6 +22,7 @@ use Rattle.model.specs.declared.Refusal.{Refusal}
 use Rattle.model.specs.declared.Refusal.the-variants.{OverLimit}
 use Rattle.walks.specs.Frame.{Kind, Place, rectOf, frameOf}
 use Rattle.walks.proofs.FrameLaws.{accepted}
+use Rattle.regions.specs.Corners.{cornerIn, NextCorner}
 use Rattle.regions.specs.Rects.{rectAt, rectsOf, regionsIn, Small, Layer}
 use Rattle.regions.specs.Regions.{Finder, isCorner, cornersOf, addRegion, regionsBy}
 use Rattle.regions.specs.Within.{addWithin}
@@ -83,33 +84,60 @@ frame-small K p w h x y len r L P e =
     } in
     subst Small (sym (F .is)) s
 
--- the regions of the corners before place i are added, which are n
-pub record Adding (find : Finder) (p : Picture) (w h : ℕ) (d out : List ℕ) (i n : ℕ) : Type 0 where
-  pub along : i ≤ h * w
-  pub same : each (addWithin find w) (left p w h i) (rectsOf out n) ≡ each (addWithin find w) (cornersOf p w h) []
+-- the next corner of a layer is that of its canvas
+corner-canvas : (l : List ℕ) (w h i k : ℕ) → NextCorner (cornerIn l) (h * w) i k → NextCorner (cornerAt (canvas w h l) w) (h * w) i k
+corner-canvas l w h i k q =
+    record {
+      from = q .from;
+      to = q .to;
+      clear = λ j a b. ap isCorner (at-canvas w h j (omega (arith, q .to)) l) ∙ q .clear j a b;
+      found = λ b. ap isCorner (at-canvas w h k b l) ∙ q .found b;
+    }
+
+-- and none stands before it
+skipped : (p : Picture) (w h i k : ℕ) → NextCorner (cornerAt p w) (h * w) i k → left p w h k ≡ left p w h i
+skipped p w h i k q = sym (those-from (cornerAt p w) (h * w) i k (q .from) (q .to) (q .clear))
+
+-- the regions of a layer's corners before place i are added, which are n, and the next corner stands there
+pub record Adding (find : Finder) (l : List ℕ) (w h : ℕ) (d out : List ℕ) (i n : ℕ) : Type 0 where
+  pub starts : i < h * w → cornerAt (canvas w h l) w i ≡ true
+  pub same : each (addWithin find w) (left (canvas w h l) w h i) (rectsOf out n) ≡ each (addWithin find w) (cornersOf (canvas w h l) w h) []
   pub long : length out ≡ length d
 
-pub adding-start : (find : Finder) (p : Picture) (w h : ℕ) (d : List ℕ) → Adding find p w h d d 0 0
+pub adding-start : (find : Finder) (l : List ℕ) (w h : ℕ) (d : List ℕ) (i : ℕ) → NextCorner (cornerIn l) (h * w) 0 i → Adding find l w h d d i 0
 unfolding run
-adding-start find p w h d =
-    record { along = omega arith; same = ap (λ (l : List ℕ). each (addWithin find w) l []) (start-left p w h); long = refl }
+adding-start find l w h d i u =
+    let p = canvas w h l in
+    let c = corner-canvas l w h 0 i u in
+    record {
+      starts = c .found;
+      same = ap (λ (cs : List ℕ). each (addWithin find w) cs []) (skipped p w h 0 i c ∙ start-left p w h);
+      long = refl;
+    }
 
-module _ {find : Finder} {p : Picture} {w h : ℕ} {d out : List ℕ} {i n : ℕ} (q : Adding find p w h d out i n) where
-  module _ (l : i < h * w) (r : Counted) (o : List ℕ) (e : regionsIn r o ≡ choose (cornerAt p w i) (addWithin find w i (rectsOf out n)) (ok (rectsOf out n))) where
-    pub adding-more : (m : ℕ) → r ≡ Regions m → length o ≡ length out → Adding find p w h d o (i + 1) m
-    adding-more m f k =
+module _ {find : Finder} {l : List ℕ} {w h : ℕ} {d out : List ℕ} {i n : ℕ} (q : Adding find l w h d out i n) where
+  abbrev p : Picture
+  p = canvas w h l
+
+  module _ (g : i < h * w) (r : Counted) (o : List ℕ) (e : regionsIn r o ≡ addWithin find w i (rectsOf out n)) where
+    added : {m : Counted} → r ≡ m → choose (cornerAt p w i) (addWithin find w i (rectsOf out n)) (ok (rectsOf out n)) ≡ regionsIn m o
+    added z = rw (q .starts g) (sym e ∙ ap (λ (x : Counted). regionsIn x o) z)
+
+    pub adding-more : (m : ℕ) → r ≡ Regions m → length o ≡ length out → (k : ℕ) → NextCorner (cornerIn l) (h * w) (i + 1) k → Adding find l w h d o k m
+    adding-more m f z k u =
+        let c = corner-canvas l w h (i + 1) k u in
         record {
-          along = omega arith;
-          same = sym (turn-on (addWithin find w) (cornerAt p w) i (h * w) (rectsOf out n) (rectsOf o m) l (sym e ∙ ap (λ (x : Counted). regionsIn x o) f)) ∙ q .same;
-          long = k ∙ q .long;
+          starts = c .found;
+          same = ap (λ (cs : List ℕ). each (addWithin find w) cs (rectsOf o m)) (skipped p w h (i + 1) k c)
+              ∙ sym (turn-on (addWithin find w) (cornerAt p w) i (h * w) (rectsOf out n) (rectsOf o m) g (added f)) ∙ q .same;
+          long = z ∙ q .long;
         }
 
     pub adding-out : (f : Refusal) → r ≡ NotCounted f → refused f ≡ each (addWithin find w) (cornersOf p w h) []
-    adding-out f g =
-        sym (turn-out (addWithin find w) (cornerAt p w) i (h * w) (rectsOf out n) f l (sym e ∙ ap (λ (x : Counted). regionsIn x o) g)) ∙ q .same
+    adding-out f z = sym (turn-out (addWithin find w) (cornerAt p w) i (h * w) (rectsOf out n) f g (added z)) ∙ q .same
 
   pub adding-end : h * w ≤ i → ok (rectsOf out n) ≡ each (addWithin find w) (cornersOf p w h) []
-  adding-end l = sym (turn-end (addWithin find w) (cornerAt p w) i (h * w) (rectsOf out n) l) ∙ q .same
+  adding-end g = sym (turn-end (addWithin find w) (cornerAt p w) i (h * w) (rectsOf out n) g) ∙ q .same
 
 -- a step where there is room, and where there is none
 module _ (find : Finder) (w i : ℕ) (d : List ℕ) (n : ℕ) where

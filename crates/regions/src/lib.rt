@@ -8,9 +8,8 @@ ghost use mathlib.Core.Path.{_≡_};
 ghost use mathlib.Core.List.{[], _∷_, _++_};
 ghost use Prim.Native.Nat.{_+_, _*_, _<_, _≤_};
 ghost use lib.ListN.{length};
-ghost use Rattle.lists.specs.Answer.{ok, each};
-ghost use Rattle.lists.specs.Choose.{choose};
-ghost use Rattle.lists.specs.Picture.{canvas, at};
+ghost use Rattle.lists.specs.Answer.{each};
+ghost use Rattle.lists.specs.Picture.{canvas};
 ghost use Rattle.model.specs.Limits.{regionCount};
 ghost use Rattle.walks.specs.Frame.{frameOf};
 ghost use Rattle.walks.specs.Kinds.{thin};
@@ -25,17 +24,11 @@ pub enum Counted {
     NotCounted(Refusal),
 }
 
-// Whether a frame starts at a character.
+// Whether a frame starts at a character. The four corners differ in bits 4 and 5 alone.
 pub fn is_corner(code: u32) -> bool
     ensures { λ r. ⌜ r ≡ isCorner code ⌝ }
 {
-    match code {
-        LIGHT_DOWN_AND_RIGHT => true,
-        LIGHT_VERTICAL_AND_RIGHT => true,
-        LIGHT_DOWN_AND_HORIZONTAL => true,
-        LIGHT_VERTICAL_AND_HORIZONTAL => true,
-        _ => false,
-    }
+    code & 0xFFFF_FFCF == LIGHT_DOWN_AND_RIGHT
 }
 
 // The first corner from place i on, or `size`.
@@ -96,18 +89,15 @@ fn add_region(layer: &[u32], w: usize, h: usize, i: usize, rects: &mut [u32], n:
     }
 }
 
-// The same where a corner stands there, if there may be one more; else the regions are those so far.
+// The same if there may be one more.
 fn add_within(layer: &[u32], w: usize, h: usize, i: usize, rects: &mut [u32], n: usize) -> Counted
     requires { ⌜ Layer w h (length (now layer)) × (i < h * w) × (regionCount * 4 ≤ length (now rects)) ⌝ }
-    ensures { λ r. ⌜ regionsIn r (now (rects .exit)) ≡ choose (isCorner (at (canvas w h (now (layer .entry))) w i)) (addWithin (frameOf thin (canvas w h (now (layer .entry))) w h) w i (rectsOf (now (rects .entry)) n)) (ok (rectsOf (now (rects .entry)) n)) ⌝ }
+    ensures { λ r. ⌜ regionsIn r (now (rects .exit)) ≡ addWithin (frameOf thin (canvas w h (now (layer .entry))) w h) w i (rectsOf (now (rects .entry)) n) ⌝ }
 {
-    if is_corner(layer[i]) {
-        if REGIONS <= n {
-            return Counted::NotCounted(Refusal::OverLimit);
-        }
-        return add_region(layer, w, h, i, rects, n);
+    if REGIONS <= n {
+        return Counted::NotCounted(Refusal::OverLimit);
     }
-    Counted::Regions(n)
+    add_region(layer, w, h, i, rects, n)
 }
 
 // The regions of a layer, as many as there may be.
@@ -116,14 +106,14 @@ fn regions_within(layer: &[u32], w: usize, h: usize, rects: &mut [u32]) -> Count
     ensures { λ r. ⌜ regionsIn r (now (rects .exit)) ≡ each (addWithin (frameOf thin (canvas w h (now (layer .entry))) w h) w) (cornersOf (canvas w h (now (layer .entry))) w h) [] ⌝ }
 {
     let size = h * w;
-    let mut i = 0;
+    let mut i = next_corner(layer, size, 0);
     let mut n = 0;
     while i < size {
         n = match add_within(layer, w, h, i, rects, n) {
             Counted::Regions(m) => m,
             Counted::NotCounted(r) => return Counted::NotCounted(r),
         };
-        i += 1;
+        i = next_corner(layer, size, i + 1);
     }
     Counted::Regions(n)
 }
