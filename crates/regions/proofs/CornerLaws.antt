@@ -1,18 +1,14 @@
 -- A corner that is being sought.
 use mathlib.Core.Bool.{Bool, true, false}
-use mathlib.Core.Path.{_≡_, subst}
-use Prim.Native.Nat.{ℕ, _+_, _≤_, _<_}
+use mathlib.Core.Path.{_≡_, ap, subst, _∙_}
+use Prim.Native.Nat.{ℕ, _+_, _-_, _≤_, _<_}
 use native.Mathlib.Omega.{arith}
 use lib.Dec.{ltb}
 use borrow.Author.Tests.{ltb-true, ltb-false}
-use Rattle.lists.proofs.Tests.{by-flag}
-use Rattle.regions.specs.Corners.{NextCorner}
-
--- no corner stands from place i to place k
-pub record Seeking (corner : ℕ → Bool) (size i k : ℕ) : Type 0 where
-  pub from : i ≤ k
-  pub to : k ≤ size
-  pub clear : (j : ℕ) → i ≤ j → j < k → corner j ≡ false
+use Rattle.lists.specs.OneOf.{anyAt}
+use Rattle.lists.proofs.OneOfLaws.{any-found}
+use Rattle.lists.proofs.Tests.{by-flag, true-false}
+use Rattle.regions.specs.Corners.{Seeking, NextCorner}
 
 pub seeking-start : (corner : ℕ → Bool) (size i : ℕ) → i ≤ size → Seeking corner size i i
 seeking-start corner size i h = record { from = omega arith; to = h; clear = λ j a b. absurd (omega arith) }
@@ -28,6 +24,18 @@ module _ {corner : ℕ → Bool} {size i k : ℕ} (q : Seeking corner size i k) 
             (λ n.
             let z : k ≡ j = omega (arith, ltb-false j k n) in
             subst (λ (m : ℕ). corner m ≡ false) z e);
+      }
+
+  pub seeking-four : 4 ≤ size - k → anyAt (λ j. corner (k + j)) 4 ≡ false → Seeking corner size i (k + 4)
+  seeking-four h e =
+      record {
+        from = omega (arith, q .from);
+        to = omega (arith, q .to);
+        clear = λ j a b.
+            by-flag (ltb j k) (λ y. q .clear j a (ltb-true j k y))
+            (λ n.
+            let z : k + (j - k) ≡ j = omega (arith, ltb-false j k n) in
+            by-flag (corner j) (λ y. absurd (true-false (any-found (λ j. corner (k + j)) 4 (j - k) (omega arith) (ap corner z ∙ y)) e)) (λ y. y));
       }
 
   pub seeking-found : corner k ≡ true → NextCorner corner size i k

@@ -10,6 +10,12 @@ use Rattle.regions.specs.Regions.{isCorner}
 abbrev pub cornerIn : List ℕ → ℕ → Bool
 cornerIn d i = isCorner (getD d i 0)
 
+-- no corner stands from place i to place k
+pub record Seeking (corner : ℕ → Bool) (size i k : ℕ) : Type 0 where
+  pub from : i ≤ k
+  pub to : k ≤ size
+  pub clear : (j : ℕ) → i ≤ j → j < k → corner j ≡ false
+
 -- k is the first place from place i on at which a corner stands, or `size` where none stands before it
 pub record NextCorner (corner : ℕ → Bool) (size i k : ℕ) : Type 0 where
   pub from : i ≤ k

@@ -9,12 +9,13 @@ ghost use mathlib.Core.List.{[], _∷_, _++_};
 ghost use Prim.Native.Nat.{_+_, _*_, _<_, _≤_};
 ghost use lib.ListN.{length};
 ghost use Rattle.lists.specs.Answer.{each};
+ghost use Rattle.lists.specs.OneOf.{anyAt};
 ghost use Rattle.lists.specs.Picture.{canvas};
 ghost use Rattle.model.specs.Limits.{regionCount};
 ghost use Rattle.walks.specs.Frame.{frameOf};
 ghost use Rattle.walks.specs.Kinds.{thin};
 ghost use Rattle.regions.specs.Regions.{isCorner, cornersOf, addRegion, regionsOf};
-ghost use Rattle.regions.specs.Corners.{cornerIn, NextCorner};
+ghost use Rattle.regions.specs.Corners.{cornerIn, Seeking, NextCorner};
 ghost use Rattle.regions.specs.Rects.{rectsOf, regionsIn, Small, Layer};
 ghost use Rattle.regions.specs.Within.{addWithin};
 
@@ -31,12 +32,39 @@ pub fn is_corner(code: u32) -> bool
     code & 0xFFFF_FFCF == LIGHT_DOWN_AND_RIGHT
 }
 
+// Whether a corner stands at one of the four places from k on. They are compared at once.
+fn in_four(layer: &[u32], k: usize) -> bool
+    requires { ⌜ k + 4 ≤ length (now layer) ⌝ }
+    ensures { λ r. ⌜ r ≡ anyAt (λ j. cornerIn (now (layer .entry)) (k + j)) 4 ⌝ }
+{
+    let a = layer[k];
+    let b = layer[k + 1];
+    let c = layer[k + 2];
+    let d = layer[k + 3];
+    is_corner(a) | is_corner(b) | is_corner(c) | is_corner(d)
+}
+
+// Past fours of places from i on in which no corner stands.
+fn skip_fours(layer: &[u32], size: usize, i: usize) -> usize
+    requires { ⌜ (i ≤ size) × (size ≤ length (now layer)) ⌝ }
+    ensures { λ r. ⌜ Seeking (cornerIn (now (layer .entry))) size i r ⌝ }
+{
+    let mut k = i;
+    while 4 <= size - k {
+        if in_four(layer, k) {
+            return k;
+        }
+        k += 4;
+    }
+    k
+}
+
 // The first corner from place i on, or `size`.
 pub fn next_corner(layer: &[u32], size: usize, i: usize) -> usize
     requires { ⌜ (i ≤ size) × (size ≤ length (now layer)) ⌝ }
     ensures { λ r. ⌜ NextCorner (cornerIn (now (layer .entry))) size i r ⌝ }
 {
-    let mut k = i;
+    let mut k = skip_fours(layer, size, i);
     while k < size {
         if is_corner(layer[k]) {
             return k;
