@@ -1,19 +1,34 @@
 -- A line carried across, as a law of a line: where it holds a character of its stroke every place is carried, else it stays.
-use mathlib.Core.Path.{_≡_}
+use mathlib.Core.Path.{_≡_, refl, sym, ap, _∙_}
 use mathlib.Core.Bool.{Bool, true, false}
 use mathlib.Core.List.{List}
 use Prim.Native.Nat.{ℕ, _<_}
 use lib.Dec.{eqb}
-use lib.ListN.{getD}
+use lib.ListN.{getD, set}
+use lib.Seq.{set-getD}
 use Rattle.lists.specs.Line.{storeAt}
 use Rattle.lists.specs.OneOf.{anyAt}
 use Rattle.lists.specs.Turns.{turns}
 use Rattle.lists.proofs.LineLaws.{LineLaw, stores-length, stores-off, stores-on}
 use Rattle.lists.proofs.OneOfLaws.{any-ext}
 use Rattle.lists.proofs.Tests.{by-flag}
-use Rattle.layers.specs.Grid.{carriedCode, carriedAt}
-use Rattle.layers.specs.Passes.{lineCarried}
+use Rattle.layers.specs.Grid.{across, down, carriedCode, carriedAt}
+use Rattle.layers.specs.Passes.{LineStays, lineCarried}
 use Rattle.layers.specs.declared.Stroke.{Stroke}
+
+-- the line's own character stays
+pub own-stays : (d : Stroke) → LineStays d → (off n k : ℕ) (s : List ℕ) (at : ℕ) → getD s at 0 ≡ d .line → s ≡ set s at (carriedCode d off n k (getD s at 0))
+own-stays d l off n k s at e =
+    let z : carriedCode d off n k (getD s at 0) ≡ getD s at 0 = ap (carriedCode d off n k) e ∙ l off n k ∙ sym e in
+    sym (ap (set s at) z ∙ set-getD s at 0)
+
+pub across-stays : LineStays across
+unfolding carriedCode
+across-stays off n k = refl
+
+pub down-stays : LineStays down
+unfolding carriedCode
+down-stays off n k = refl
 
 -- a line's characters decide what becomes of it
 pub carried-ext : (d : Stroke) (off n : ℕ) (g h : ℕ → ℕ) → ((k : ℕ) → k < n → g k ≡ h k) → (k : ℕ) → k < n → carriedAt d off n g k ≡ carriedAt d off n h k

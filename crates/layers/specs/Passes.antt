@@ -1,5 +1,6 @@
 -- What the inner functions of the GRID pass leave in the layer: no caller needs these.
 use mathlib.Core.List.{List}
+use mathlib.Core.Path.{_≡_}
 use Prim.Native.Nat.{ℕ}
 use lib.Dec.{eqb}
 use lib.ListN.{getD}
@@ -9,6 +10,10 @@ use Rattle.lists.specs.OneOf.{anyAt}
 use Rattle.lists.specs.Turns.{turns}
 use Rattle.layers.specs.Grid.{carriedCode}
 use Rattle.layers.specs.declared.Stroke.{Stroke}
+
+-- the line's own character stays, wherever the line is carried across it
+abbrev pub LineStays : Stroke → Type 0
+LineStays d = (off n k : ℕ) → carriedCode d off n k (d .line) ≡ d .line
 
 -- a line of n characters, whose kth stands at `at k`: carried across where it holds a character of its stroke
 unfoldable pub lineCarried : Stroke → ℕ → (ℕ → ℕ) → ℕ → List ℕ → List ℕ

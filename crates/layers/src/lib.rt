@@ -14,7 +14,7 @@ ghost use Rattle.layers.specs.Thin.{thinOf, thinLayers, thinPicture};
 ghost use Rattle.layers.specs.Body.{topOf, bodyCode, shadedCode, bodyLayers, bodyPicture, shadedPicture};
 ghost use Rattle.layers.specs.Grid.{carriedCode, carriedLayers, gridPicture};
 ghost use Rattle.layers.specs.Sizes.{LayersOf, BodyIn};
-ghost use Rattle.layers.specs.Passes.{lineCarried, linesCarried};
+ghost use Rattle.layers.specs.Passes.{LineStays, lineCarried, linesCarried};
 
 // THIN's character of TEXT's.
 fn thin_code(t: u32) -> u32
@@ -273,7 +273,7 @@ fn has_code(s: &[u32], base: usize, stride: usize, n: usize, code: u32) -> bool
     false
 }
 
-// The character at `at`, place k of its line.
+// The character at `at`, place k of its line. Most are the line itself, and stay.
 fn carry_at(
     text: &[u32],
     thins: &[u32],
@@ -287,8 +287,12 @@ fn carry_at(
 )
     requires { ⌜ (at < length (now text)) × ((at < length (now thins)) × ((at < length (now bodies)) × (at < length (now grid)))) ⌝ }
     requires { ⌜ (k < n) × (off + n < 2 ^ 32) ⌝ }
+    requires { ⌜ LineStays d ⌝ }
     ensures { λ _. ⌜ now (grid .exit) ≡ set (now (grid .entry)) at (carriedCode d off n k (getD (now (grid .entry)) at 0)) ⌝ }
 {
+    if grid[at] == d.line {
+        return;
+    }
     let c = carried([text[at], thins[at], bodies[at], grid[at]], d, off, n, k);
     grid[at] = c[3];
 }
@@ -307,6 +311,7 @@ fn carry_line(
 )
     requires { ⌜ ((k : ℕ) → k < n → (base + k * stride < length (now text)) × ((base + k * stride < length (now thins)) × ((base + k * stride < length (now bodies)) × (base + k * stride < length (now grid))))) ⌝ }
     requires { ⌜ off + n < 2 ^ 32 ⌝ }
+    requires { ⌜ LineStays d ⌝ }
     ensures { λ _. ⌜ now (grid .exit) ≡ lineCarried d off (λ k. base + k * stride) n (now (grid .entry)) ⌝ }
 {
     let line = d.line;
@@ -335,6 +340,7 @@ fn carry_lines(
 )
     requires { ⌜ ((j k : ℕ) → j < m → k < n → (placed base across stride j k < length (now text)) × ((placed base across stride j k < length (now thins)) × ((placed base across stride j k < length (now bodies)) × (placed base across stride j k < length (now grid))))) ⌝ }
     requires { ⌜ (0 < n) × (off + n < 2 ^ 32) ⌝ }
+    requires { ⌜ LineStays d ⌝ }
     ensures { λ _. ⌜ now (grid .exit) ≡ linesCarried d off (placed base across stride) m n (now (grid .entry)) ⌝ }
 {
     let mut j = 0;

@@ -41,7 +41,9 @@ add-carry-at : tie.Need-add-carry-at Inv-loop μ-loop
 add-carry-at c = omega (arith, inside (c .before))
 
 carry-at-requires : tie.Need-carry-at-requires Inv-loop μ-loop
-carry-at-requires c κs = omega (arith, inside (c .before), c .before .before .before .before .before .before .before .before .before .before .pre .1)
+carry-at-requires c κs =
+    let p = start (c .before) .pre .1 in
+    (omega (arith, inside (c .before)), (omega (arith, p .0), p .1))
 
 add-k : tie.Need-add-k Inv-loop μ-loop
 add-k c = search needs

@@ -36,7 +36,7 @@ add-carry-line : tie.Need-add-carry-line Inv-loop μ-loop
 add-carry-line c = omega (arith, inside (c .before) 0 (omega arith))
 
 carry-line-requires : tie.Need-carry-line-requires Inv-loop μ-loop
-carry-line-requires c κs = ((λ k h. omega (arith, inside (c .before) k h, c .before .before .loop .inv .long)), omega arith)
+carry-line-requires c κs = ((λ k h. omega (arith, inside (c .before) k h, c .before .before .loop .inv .long)), (omega arith, start (c .before) .pre .1 .1))
 
 add-j : tie.Need-add-j Inv-loop μ-loop
 add-j c = search needs

@@ -6,6 +6,7 @@ use native.Mathlib.Omega.{arith}
 use lib.ListN.{length}
 use Rattle.layers.specs.Sizes.{LayersOf}
 use Rattle.layers.proofs.SizeLaws.{layers-again, corner-in, rows-in, columns-in}
+use Rattle.layers.proofs.CarryLaws.{across-stays, down-stays}
 use Rattle.layers.proofs.GridLaws.{grid-canvas}
 use Rattle.layers.proofs.make_grid.Statement.{statement}
 use Rattle.layers.proofs.make_grid.Tie as tie
@@ -50,13 +51,13 @@ add-base c = omega (arith, corner (c .before .before))
 carry-lines-requires : tie.Need-carry-lines-requires
 carry-lines-requires c κs =
     let d = c .before .before .before in
-    (rows-in (start d .pre .1) (copied d), omega arith)
+    (rows-in (start d .pre .1) (copied d), (omega arith, across-stays))
 
 carry-lines-requires-2 : tie.Need-carry-lines-requires-2
 carry-lines-requires-2 c κs =
     let d = c .before .before .before in
     let p = start (copying d) .pre in
-    (columns-in (p .1) (carried d), omega arith)
+    (columns-in (p .1) (carried d), (omega arith, down-stays))
 
 same-length : tie.Need-same-length
 same-length c = search needs
