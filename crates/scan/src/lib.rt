@@ -116,20 +116,10 @@ fn put_codes(s: &[u8], from: usize, count: usize, out: &mut [u32], base: usize)
     let mut p = from;
     let mut i: usize = 0;
     while i < count {
-        let d = utf8::next(s, p);
-        match d {
-            Decoded::Char(c, n) => {
-                out[base + i] = c;
-                p += n;
-                i += 1;
-            }
-            Decoded::IllFormed => {
-                return;
-            }
-            Decoded::End => {
-                return;
-            }
-        }
+        let d = utf8::known(s, p);
+        out[base + i] = d.code;
+        p += d.bytes;
+        i += 1;
     }
 }
 
