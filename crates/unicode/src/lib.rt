@@ -28,16 +28,16 @@ fn listed(c: u32) -> bool
     }
 }
 
-// Whether a code point is White_Space. Between 0x20 and 0x85 none is, and above 0x205F only 0x3000.
+// Whether a code point is White_Space. Above 0x205F only 0x3000 is, and between 0x20 and 0x85 none.
 pub fn white_space(c: u32) -> bool
     ensures { λ r. ⌜ r ≡ white c ⌝ }
 {
+    if 0x205F < c {
+        return c == 0x3000;
+    }
     if 0x20 < c {
         if c < 0x85 {
             return false;
-        }
-        if 0x205F < c {
-            return c == 0x3000;
         }
         return listed(c);
     }
