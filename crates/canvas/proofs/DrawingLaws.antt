@@ -1,5 +1,5 @@
 -- From the scan, the outline and the layers to what drawing a sheet promises.
-use mathlib.Core.Path.{_≡_, sym, _∙_}
+use mathlib.Core.Path.{_≡_, refl, sym, _∙_}
 use mathlib.Core.List.{List}
 use Prim.Native.Nat.{ℕ, _*_, _≤_}
 use native.Mathlib.Omega.{arith}
@@ -23,7 +23,8 @@ use Rattle.scan.specs.Rows.{widest}
 use Rattle.scan.specs.declared.Scanned.the-variants.{Canvas, NotScanned}
 use Rattle.scan.proofs.Answers.{scanned-size, fits-size}
 use Rattle.scan.proofs.TextLayer.{text-canvas, blanks-canvas}
-use Rattle.utf8.specs.Utf8.{checked}
+use Rattle.utf8.specs.Utf8.{checked, onText}
+use Rattle.utf8.specs.declared.Checked.{Checked}
 use Rattle.utf8.specs.declared.Checked.the-variants.{Valid, Invalid}
 use Rattle.walks.specs.Frame.{frameOf}
 use Rattle.canvas.specs.Layers.{textLayer, drawingBy, drawingOf, sheetBy, sheetOf}
@@ -41,19 +42,28 @@ pub scan-refused : (rs : List (List ℕ)) (r : Refusal) → scannedIn (NotScanne
 unfolding drawingBy
 scan-refused rs r e = rw (← e)
 
-module _ (rs : List (List ℕ)) (h w end : ℕ) (e : scannedIn (Canvas h w end) ≡ sizeOf rs) where
+-- number 1 comes before that
+pub refused-behind : (s : List ℕ) (c : Checked) (r x : Refusal) → c ≡ checked s → x ≡ onText c InvalidUtf8 r → refused r ≡ drawingOf (rowsAt s 0) → refused x ≡ sheetOf s
+unfolding sheetBy
+refused-behind s c r x e f g = rw (f, ← e) (go c)
+  where
+    go : (c : Checked) → refused (onText c InvalidUtf8 r) ≡ onText c (λ at. refused (InvalidUtf8 at)) (drawingOf (rowsAt s 0))
+    go Valid = g
+    go (Invalid at) = refl
+
+module _ (rs : List (List ℕ)) (h w end v : ℕ) (e : scannedIn (Canvas h w end v) ≡ sizeOf rs) where
   pub canvas-fits : h * w ≤ canvasSize
-  canvas-fits = let q = scanned-size rs h w end e in rw (q .1, q .2) (fits-size rs (q .0) .2)
+  canvas-fits = let q = scanned-size rs h w end v e in rw (q .1, q .2) (fits-size rs (q .0) .2)
 
   pub columns-fit : w ≤ 65536
-  columns-fit = let q = scanned-size rs h w end e in omega (arith, fits-size rs (q .0))
+  columns-fit = let q = scanned-size rs h w end v e in omega (arith, fits-size rs (q .0))
 
   pub rows-fit : h ≤ 65536
-  rows-fit = let q = scanned-size rs h w end e in omega (arith, fits-size rs (q .0))
+  rows-fit = let q = scanned-size rs h w end v e in omega (arith, fits-size rs (q .0))
 
   module _ (d t : List ℕ) (f : t ≡ textIn rs d) where
     pub text-shown : canvas w h t ≡ textLayer rs
-    text-shown = let q = scanned-size rs h w end e in rw (q .1, q .2, f) (text-canvas rs d (q .0))
+    text-shown = let q = scanned-size rs h w end v e in rw (q .1, q .2, f) (text-canvas rs d (q .0))
 
     outline-is : outlineOf (canvas w h t) w h ≡ drawingOf rs
     unfolding drawingBy
@@ -77,7 +87,7 @@ module _ (rs : List (List ℕ)) (h w end : ℕ) (e : scannedIn (Canvas h w end) 
         → canvas w h g ≡ gridPicture r (bodyPicture r (thinPicture w h (canvas w h t)) (canvas w h b))
         → Shown rs h w r t m b' g
     shown r c b m b' g k i j l =
-        let q = scanned-size rs h w end e in
+        let q = scanned-size rs h w end v e in
         let x = text-shown in
         let y : canvas w h b ≡ canvas (widest rs) (length rs) (blanksIn rs c) = rw (q .1, q .2, k) in
         let z = y ∙ blanks-canvas rs c (q .0) in

@@ -6,15 +6,14 @@ use outline::Outlined;
 use scan::Scanned;
 use utf8::Checked;
 ghost use mathlib.Core.Path.{_≡_};
-ghost use Prim.Native.Nat.{_≤_};
-ghost use lib.ListN.{length};
 ghost use Rattle.lists.specs.Picture.{canvas};
 ghost use Rattle.layers.specs.Body.{bodyPicture};
 ghost use Rattle.layers.specs.Grid.{gridPicture};
 ghost use Rattle.layers.specs.Sizes.{LayersOf, BodyIn};
 ghost use Rattle.layers.specs.Thin.{thinPicture};
 ghost use Rattle.scan.specs.Canvas.{rowsAt};
-ghost use Rattle.canvas.specs.Layers.{drawingOf, sheetOf};
+ghost use Rattle.utf8.specs.Utf8.{onText};
+ghost use Rattle.canvas.specs.Layers.{sheetOf};
 ghost use Rattle.canvas.specs.Drawn.{outlineIn, LayersIn, Ended, Room};
 
 // The canvas's rows and columns, where the text behind the sheet starts, and the outline; or a refusal.
@@ -43,37 +42,17 @@ fn make_layers(
     layers::make_grid(text, thins, bodies, grid, width, rows, r);
 }
 
-// Draws the first sheet in a text from an index on.
-pub fn draw(
-    s: &[u8],
-    from: usize,
-    text: &mut [u32],
-    thins: &mut [u32],
-    bodies: &mut [u32],
-    grid: &mut [u32],
-) -> Drawing
-    requires { ⌜ (from ≤ length (now s)) × Room (now text) (now thins) (now bodies) (now grid) ⌝ }
-    ensures answer { λ r. ⌜ outlineIn r ≡ drawingOf (rowsAt (now (s .entry)) from) ⌝ }
-    ensures layers { λ r. ⌜ LayersIn r (rowsAt (now (s .entry)) from) (now (text .exit)) (now (thins .exit)) (now (bodies .exit)) (now (grid .exit)) ⌝ }
-    ensures end { λ r. ⌜ Ended r (now (s .entry)) from ⌝ }
+// A refusal of a text, which number 1 comes before.
+fn behind_utf8(c: Checked, r: Refusal) -> Refusal
+    ensures { λ x. ⌜ x ≡ onText c Refusal.InvalidUtf8 r ⌝ }
 {
-    match scan::scan(s, from, text, bodies) {
-        Scanned::Canvas(rows, columns, end) => match outline::recognize_outline(
-            text,
-            columns,
-            rows,
-        ) {
-            Outlined::Table(o) => {
-                make_layers(text, thins, bodies, grid, columns, rows, o.body);
-                Drawing::Drawn(rows, columns, end, o)
-            }
-            Outlined::NotOutlined(r) => Drawing::NotDrawn(r),
-        },
-        Scanned::NotScanned(r) => Drawing::NotDrawn(r),
+    match c {
+        Checked::Valid => r,
+        Checked::Invalid(at) => Refusal::InvalidUtf8(at),
     }
 }
 
-// Draws the first sheet in a text that has to be well-formed.
+// Draws the first sheet in a text that has to be well-formed. What the scan has read is not checked again.
 pub fn draw_sheet(
     s: &[u8],
     text: &mut [u32],
@@ -86,8 +65,17 @@ pub fn draw_sheet(
     ensures layers { λ r. ⌜ LayersIn r (rowsAt (now (s .entry)) 0) (now (text .exit)) (now (thins .exit)) (now (bodies .exit)) (now (grid .exit)) ⌝ }
     ensures end { λ r. ⌜ Ended r (now (s .entry)) 0 ⌝ }
 {
-    match utf8::validate(s) {
-        Checked::Valid => draw(s, 0, text, thins, bodies, grid),
-        Checked::Invalid(at) => Drawing::NotDrawn(Refusal::InvalidUtf8(at)),
+    match scan::scan(s, 0, text, bodies) {
+        Scanned::Canvas(rows, columns, end, valid) => match utf8::validate_from(s, valid) {
+            Checked::Valid => match outline::recognize_outline(text, columns, rows) {
+                Outlined::Table(o) => {
+                    make_layers(text, thins, bodies, grid, columns, rows, o.body);
+                    Drawing::Drawn(rows, columns, end, o)
+                }
+                Outlined::NotOutlined(r) => Drawing::NotDrawn(r),
+            },
+            Checked::Invalid(at) => Drawing::NotDrawn(Refusal::InvalidUtf8(at)),
+        },
+        Scanned::NotScanned(r) => Drawing::NotDrawn(behind_utf8(utf8::validate(s), r)),
     }
 }

@@ -13,16 +13,17 @@ use Rattle.lists.proofs.AnswerLaws.{refused-ok}
 use Rattle.lists.proofs.Tests.{by-flag, both}
 use Rattle.model.specs.Limits.{canvasRows, canvasColumns, canvasSize}
 use Rattle.model.specs.declared.Refusal.the-variants.{CanvasTooLarge}
-use Rattle.scan.specs.Canvas.{Size, fits, sizeOf, textIn, blanksIn, rowsAt, scannedIn, Ended}
+use Rattle.utf8.specs.Utf8.{SameCheck}
+use Rattle.scan.specs.Canvas.{Size, fits, sizeOf, textIn, blanksIn, rowsAt, scannedIn, Ended, ValidIn}
 use Rattle.scan.specs.Found.{StartAt, Measured, rowsIn, Counted, Kept}
 use Rattle.scan.specs.Rows.{widest, blank, flat}
 use Rattle.scan.specs.declared.Scanned.{Scanned}
 use Rattle.scan.specs.declared.Scanned.the-variants.{Canvas, NotScanned}
 
 -- an answered canvas has the size of the rows, and they fit
-pub scanned-size : (rs : List (List ℕ)) (h w e : ℕ) → scannedIn (Canvas h w e) ≡ sizeOf rs → (fits rs ≡ true) × (h ≡ length rs) × (w ≡ widest rs)
+pub scanned-size : (rs : List (List ℕ)) (h w e v : ℕ) → scannedIn (Canvas h w e v) ≡ sizeOf rs → (fits rs ≡ true) × (h ≡ length rs) × (w ≡ widest rs)
 unfolding sizeOf
-scanned-size rs h w e q =
+scanned-size rs h w e v q =
     by-flag (fits rs)
     (λ f.
     let k = rw f at q in
@@ -40,7 +41,7 @@ fits-size rs f =
 -- what `scan` promises of the answer r, where TEXT was d and is o, and BODY was b and is p
 abbrev Answered : List ℕ → ℕ → List ℕ → List ℕ → Scanned → List ℕ → List ℕ → Type 0
 Answered s from d b r o p =
-    (scannedIn r ≡ sizeOf (rowsAt s from)) × (Ended r s from × ((o ≡ textIn (rowsAt s from) d) × (p ≡ blanksIn (rowsAt s from) b)))
+    (scannedIn r ≡ sizeOf (rowsAt s from)) × (Ended r s from × (ValidIn r s from × ((o ≡ textIn (rowsAt s from) d) × (p ≡ blanksIn (rowsAt s from) b))))
 
 module _ {s : List ℕ} {from at rows columns end : ℕ} (i : StartAt s from at) (m : Measured s at rows columns end) where
   height : rows ≡ length (rowsAt s from)
@@ -52,7 +53,7 @@ module _ {s : List ℕ} {from at rows columns end : ℕ} (i : StartAt s from at)
   module _ (d b : List ℕ) where
     large : fits (rowsAt s from) ≡ false → Answered s from d b (NotScanned (CanvasTooLarge rows columns)) d b
     unfolding sizeOf textIn blanksIn
-    large f = (rw (f, ← height, ← width), (tt, (rw f, rw f)))
+    large f = (rw (f, ← height, ← width), (tt, (tt, (rw f, rw f))))
 
     pub scan-rows : canvasRows < rows → Answered s from d b (NotScanned (CanvasTooLarge rows columns)) d b
     scan-rows h = large (rw (← height, lt-leb rows canvasRows h))
@@ -70,17 +71,14 @@ module _ {s : List ℕ} {from at rows columns end : ℕ} (i : StartAt s from at)
       fitting : fits (rowsAt s from) ≡ true
       fitting = rw (← height, ← width, le-leb rows canvasRows h, le-leb columns canvasColumns k)
 
-      pub scan-canvas : {o p : List ℕ} → (o ≡ put d 0 (flat columns (rowsIn s lines rows))) × (p ≡ put b 0 (flat columns (map blank (rowsIn s lines rows))))
-          → Answered s from d b (Canvas rows columns end) o p
+      pub scan-canvas : (valid : ℕ) {o p : List ℕ} → SameCheck s from valid → (o ≡ put d 0 (flat columns (rowsIn s lines rows))) × (p ≡ put b 0 (flat columns (map blank (rowsIn s lines rows))))
+          → Answered s from d b (Canvas rows columns end valid) o p
       unfolding sizeOf textIn blanksIn
-      scan-canvas w =
+      scan-canvas valid v w =
           let e : rowsIn s lines rows ≡ rowsAt s from = q .same ∙ sym (i .same) in (
             rw (fitting, ← height, ← width),
             (
               (m .inside, m .rest ∙ sym (i .rest)),
-              (
-                w .0 ∙ rw (fitting, ← width, e),
-                w .1 ∙ rw (fitting, ← width, e),
-              ),
+              (v, (w .0 ∙ rw (fitting, ← width, e), w .1 ∙ rw (fitting, ← width, e))),
             ),
           )

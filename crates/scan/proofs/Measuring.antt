@@ -6,7 +6,7 @@ use Prim.Native.Nat.{ℕ, _+_, _≤_, _<_, max}
 use native.Mathlib.Omega.{arith}
 use lib.ListN.{length, drop}
 use Rattle.model.specs.Box.{┘}
-use Rattle.unicode.specs.Lines.{codesAt, LineAt}
+use Rattle.unicode.specs.Lines.{codesAt, LineAt, ValidTo}
 use Rattle.utf8.specs.Utf8.{codes}
 use Rattle.scan.specs.Canvas.{rowsAt}
 use Rattle.scan.specs.Found.{textsAt, restAt, StartAt, Measured}
@@ -92,3 +92,10 @@ module _ {s : List ℕ} {at p n w : ℕ} (i : Measuring s at p n w) where
         inside = i .inside;
         rest = sym (i .rest ∙ rest-end s p h);
       }
+
+-- a check goes on along the lines that are read
+pub valid-start : (s : List ℕ) (at : ℕ) → ValidTo s at at at
+valid-start s at = record { same = refl; level = λ h. refl }
+
+pub valid-more : {s : List ℕ} {from at next v w : ℕ} → ValidTo s from at v → at < length s → ValidTo s at next w → ValidTo s from next w
+valid-more {s} i h l = record { same = i .same ∙ rw (i .level h) (l .same); level = l .level }

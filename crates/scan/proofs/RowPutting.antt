@@ -10,9 +10,10 @@ use Rattle.lists.proofs.Parts.{take-next, drop-next}
 use Rattle.lists.proofs.PutLaws.{put-nil, put-put, put-snoc}
 use Rattle.model.specs.Box.{░}
 use Rattle.unicode.specs.Lines.{codesAt}
-use Rattle.utf8.specs.Utf8.{codes, decode}
-use Rattle.utf8.specs.declared.Decoded.the-variants.{Char}
-use Rattle.utf8.proofs.Utf8Laws.{codes-char, decode-fits}
+use Rattle.utf8.specs.Utf8.{codes, decode, StandsAt}
+use Rattle.utf8.specs.declared.Decoded.{Decoded}
+use Rattle.utf8.specs.declared.Decoded.the-variants.{Char, IllFormed, End}
+use Rattle.utf8.proofs.Utf8Laws.{codes-char, codes-bad, codes-none, decode-fits}
 use Rattle.scan.specs.Rows.{fill, blank}
 use Rattle.scan.proofs.TextLayer.{blank-length}
 
@@ -47,12 +48,20 @@ module _ {s : List ℕ} {from count : ℕ} {d : List ℕ} {base : ℕ} {out : Li
           long = length-set out (base + i) c ∙ q .long;
         }
 
-  -- where fewer than count are written, there is a code point
-  pub putting-stuck : i < count → count ≡ length (codesAt s from count) → codes (drop p s) ≡ [] → ⊥
-  putting-stuck h r e =
+  stuck : i < count → count ≡ length (codesAt s from count) → codes (drop p s) ≡ [] → ⊥
+  stuck h r e =
       let a : length (codes (drop from s)) - i ≡ 0 = sym (length-drop i _) ∙ ap length (q .left ∙ e) in
       let b = length-take count (codes (drop from s)) in
       omega arith
+
+  -- where fewer than count are written, there is a code point
+  pub putting-stands : i < count → count ≡ length (codesAt s from count) → StandsAt s p
+  putting-stands h r = go (decode (drop p s)) refl
+    where
+      go : (d : Decoded) → decode (drop p s) ≡ d → StandsAt s p
+      go (Char c n) e = record { code = c; bytes = n; decoded = e }
+      go IllFormed e = absurd (stuck h r (codes-bad _ e))
+      go End e = absurd (stuck h r (codes-none _ e))
 
   pub putting-done : count ≤ i → out ≡ put d base (codesAt s from count)
   putting-done h =

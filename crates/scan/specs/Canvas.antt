@@ -11,7 +11,7 @@ use Rattle.lists.specs.Put.{put}
 use Rattle.model.specs.Limits.{canvasRows, canvasColumns}
 use Rattle.model.specs.Refusals.{Reading}
 use Rattle.model.specs.declared.Refusal.the-variants.{CanvasTooLarge}
-use Rattle.utf8.specs.Utf8.{codes}
+use Rattle.utf8.specs.Utf8.{codes, SameCheck}
 use Rattle.scan.specs.Rows.{rows, widest, blank, flat}
 use Rattle.scan.specs.Sheet.{restOf}
 use Rattle.scan.specs.declared.Scanned.{Scanned}
@@ -45,10 +45,15 @@ rowsAt s at = rows (codes (drop at s))
 
 -- an answer's size
 abbrev pub scannedIn : Scanned → Reading Size
-scannedIn (Canvas height width end) = ok (record { height = height; width = width })
+scannedIn (Canvas height width end valid) = ok (record { height = height; width = width })
 scannedIn (NotScanned r) = refused r
 
 -- an answer's end: the bytes from there on are those behind the sheet
 abbrev pub Ended : Scanned → List ℕ → ℕ → Type 0
-Ended (Canvas height width end) s at = (end ≤ length s) × (codes (drop end s) ≡ restOf (codes (drop at s)))
+Ended (Canvas height width end valid) s at = (end ≤ length s) × (codes (drop end s) ≡ restOf (codes (drop at s)))
 Ended (NotScanned r) s at = Unit {0}
+
+-- an answer's check of UTF-8: it goes on where the answer says
+abbrev pub ValidIn : Scanned → List ℕ → ℕ → Type 0
+ValidIn (Canvas height width end valid) s at = SameCheck s at valid
+ValidIn (NotScanned r) s at = Unit {0}

@@ -9,9 +9,10 @@ ghost use Prim.Native.Nat.{_+_, _*_, _≤_, _<_, max};
 ghost use lib.ListN.{length, set, replicate};
 ghost use Rattle.lists.specs.Put.{put};
 ghost use Rattle.model.specs.Limits.{canvasRows, canvasSize};
-ghost use Rattle.unicode.specs.Lines.{codesAt};
+ghost use Rattle.unicode.specs.Lines.{codesAt, ValidTo};
+ghost use Rattle.utf8.specs.Utf8.{SameCheck};
 ghost use Rattle.scan.specs.Rows.{begins, widest, fill, blank, flat};
-ghost use Rattle.scan.specs.Canvas.{sizeOf, textIn, blanksIn, rowsAt, scannedIn, Ended};
+ghost use Rattle.scan.specs.Canvas.{sizeOf, textIn, blanksIn, rowsAt, scannedIn, Ended, ValidIn};
 ghost use Rattle.scan.specs.Found.{StartAt, Measured, rowsIn, Counted, Kept};
 
 // Whether the text of `count` code points at a place begins with ┌.
@@ -29,21 +30,30 @@ fn begins_sheet(s: &[u8], from: usize, count: usize) -> bool
     }
 }
 
-// Where the first line from `from` on starts whose text begins with ┌, or the end.
-fn sheet_start(s: &[u8], from: usize) -> usize
+// Where a sheet starts, and up to where the bytes before it are valid.
+struct SheetStart {
+    at: usize,
+    valid: usize,
+}
+
+// The first line from `from` on whose text begins with ┌, or the end.
+fn sheet_start(s: &[u8], from: usize) -> SheetStart
     requires { ⌜ from ≤ length (now s) ⌝ }
-    ensures { λ r. ⌜ StartAt (now (s .entry)) from r ⌝ }
+    ensures start { λ r. ⌜ StartAt (now (s .entry)) from (r .at) ⌝ }
+    ensures valid { λ r. ⌜ ValidTo (now (s .entry)) from (r .at) (r .valid) ⌝ }
 {
     let mut at = from;
+    let mut valid = from;
     while at < s.len() {
         let l = unicode::line_at(s, at);
         let next = l.next;
         if begins_sheet(s, l.from, l.count) {
-            return at;
+            return SheetStart { at, valid };
         }
         at = next;
+        valid = l.valid;
     }
-    at
+    SheetStart { at, valid }
 }
 
 fn larger(a: usize, b: usize) -> usize
@@ -67,20 +77,23 @@ fn keep_line(lines: &mut [usize], n: usize, from: usize, count: usize)
     lines[2 * n + 1] = count;
 }
 
-// How many rows a sheet has, how many code points the longest, and where the text behind it starts.
+// How many rows a sheet has, how many code points the longest, where the text behind it starts, and up to where the bytes are valid.
 struct Extent {
     rows: usize,
     columns: usize,
     end: usize,
+    valid: usize,
 }
 
-// Measures the sheet whose first line starts at a place, and keeps where its rows stand.
-fn measure(s: &[u8], at: usize, lines: &mut [usize]) -> Extent
-    requires { ⌜ (at ≤ length (now s)) × (2 * canvasRows ≤ length (now lines)) ⌝ }
+// Measures the sheet whose first line starts at a place, and keeps where its rows stand. The bytes before it are valid up to `valid`.
+fn measure(s: &[u8], at: usize, valid: usize, lines: &mut [usize]) -> Extent
+    requires { ⌜ (at ≤ length (now s)) × (at < length (now s) → valid ≡ at) × (2 * canvasRows ≤ length (now lines)) ⌝ }
     ensures measured { λ r. ⌜ Measured (now (s .entry)) at (r .rows) (r .columns) (r .end) ⌝ }
     ensures kept { λ r. ⌜ (r .rows ≤ canvasRows → Kept (now (s .entry)) at (now (lines .exit)) (r .rows)) ⌝ }
+    ensures valid { λ r. ⌜ SameCheck (now (s .entry)) valid (r .valid) ⌝ }
 {
     let mut p = at;
+    let mut v = valid;
     let mut rows: usize = 0;
     let mut columns: usize = 0;
     while p < s.len() {
@@ -88,6 +101,7 @@ fn measure(s: &[u8], at: usize, lines: &mut [usize]) -> Extent
         let count = l.count;
         let last = l.last;
         p = l.next;
+        v = l.valid;
         if 0 < count {
             keep_line(lines, rows, l.from, count);
             rows += 1;
@@ -97,6 +111,7 @@ fn measure(s: &[u8], at: usize, lines: &mut [usize]) -> Extent
                     rows,
                     columns,
                     end: p,
+                    valid: v,
                 };
             }
         }
@@ -105,6 +120,7 @@ fn measure(s: &[u8], at: usize, lines: &mut [usize]) -> Extent
         rows,
         columns,
         end: p,
+        valid: v,
     }
 }
 
@@ -116,20 +132,10 @@ fn put_codes(s: &[u8], from: usize, count: usize, out: &mut [u32], base: usize)
     let mut p = from;
     let mut i: usize = 0;
     while i < count {
-        let d = utf8::next(s, p);
-        match d {
-            Decoded::Char(c, n) => {
-                out[base + i] = c;
-                p += n;
-                i += 1;
-            }
-            Decoded::IllFormed => {
-                return;
-            }
-            Decoded::End => {
-                return;
-            }
-        }
+        let d = utf8::known(s, p);
+        out[base + i] = d.code;
+        p += d.bytes;
+        i += 1;
     }
 }
 
@@ -187,9 +193,9 @@ fn write_rows(
     }
 }
 
-// What a scan answers: the canvas's rows and columns and where the text behind the sheet starts, or a refusal.
+// What a scan answers: the canvas's rows and columns, where the text behind the sheet starts and up to where the bytes are valid; or a refusal.
 pub enum Scanned {
-    Canvas(usize, usize, usize),
+    Canvas(usize, usize, usize, usize),
     NotScanned(Refusal),
 }
 
@@ -198,15 +204,17 @@ pub fn scan(s: &[u8], from: usize, text: &mut [u32], body: &mut [u32]) -> Scanne
     requires { ⌜ (from ≤ length (now s)) × (canvasSize ≤ length (now text)) × (canvasSize ≤ length (now body)) ⌝ }
     ensures answer { λ r. ⌜ scannedIn r ≡ sizeOf (rowsAt (now (s .entry)) from) ⌝ }
     ensures end { λ r. ⌜ Ended r (now (s .entry)) from ⌝ }
+    ensures valid { λ r. ⌜ ValidIn r (now (s .entry)) from ⌝ }
     ensures layer { λ _. ⌜ now (text .exit) ≡ textIn (rowsAt (now (s .entry)) from) (now (text .entry)) ⌝ }
     ensures body { λ _. ⌜ now (body .exit) ≡ blanksIn (rowsAt (now (s .entry)) from) (now (body .entry)) ⌝ }
 {
-    let at = sheet_start(s, from);
+    let start = sheet_start(s, from);
     let mut lines = [0usize; LINE_NUMBERS];
-    let m = measure(s, at, &mut lines);
+    let m = measure(s, start.at, start.valid, &mut lines);
     let rows = m.rows;
     let columns = m.columns;
     let end = m.end;
+    let valid = m.valid;
     if limits::CANVAS_ROWS < rows {
         return Scanned::NotScanned(Refusal::CanvasTooLarge(rows, columns));
     }
@@ -214,5 +222,5 @@ pub fn scan(s: &[u8], from: usize, text: &mut [u32], body: &mut [u32]) -> Scanne
         return Scanned::NotScanned(Refusal::CanvasTooLarge(rows, columns));
     }
     write_rows(s, &lines, rows, columns, text, body);
-    Scanned::Canvas(rows, columns, end)
+    Scanned::Canvas(rows, columns, end, valid)
 }

@@ -12,11 +12,12 @@ use borrow.Author.Tests.{eq-eqb, ne-eqb}
 use Rattle.unicode.specs.White.{white}
 use Rattle.lists.specs.Choose.{choose}
 use Rattle.unicode.specs.Trim.{trimStart, trimEnd, before, trim}
-use Rattle.unicode.specs.Lines.{join, lines, lastOf, texts, kept, line, after, lineText, LineAt}
+use Rattle.unicode.specs.Lines.{join, lines, lastOf, texts, kept, line, after, lineText, LineAt, ValidTo}
 use Rattle.unicode.specs.LineScan.{lead, RestAt}
-use Rattle.utf8.specs.Utf8.{codes, decode}
+use Rattle.unicode.specs.declared.Rest.{Rest}
+use Rattle.utf8.specs.Utf8.{codes, decode, SameCheck}
 use Rattle.utf8.specs.declared.Decoded.the-variants.{Char}
-use Rattle.utf8.proofs.Utf8Laws.{codes-at, char-fits, codes-end}
+use Rattle.utf8.proofs.Utf8Laws.{codes-at, char-fits, check-at, codes-end}
 use Rattle.unicode.proofs.TrimLaws.{end-snoc}
 
 -- the first line and the others
@@ -194,14 +195,26 @@ pub record Scanned (s : List ℕ) (from p k count last : ℕ) : Type 0 where
   pub counted : ends 0 0 (codes (drop from s)) ≡ ends k count (codes (drop p s))
   pub lasting : lasts 0 (codes (drop from s)) ≡ lasts last (codes (drop p s))
   pub onward : after (codes (drop from s)) ≡ after (codes (drop p s))
+  pub checks : SameCheck s from p
+
+-- what the scan of a line's rest answers
+abbrev pub Found : List ℕ → ℕ → ℕ → ℕ → ℕ → ℕ → Type 0
+Found s from count last next valid = RestAt s from count last next × ValidTo s from next valid
+
+pub found-in : {s : List ℕ} {from count last next valid : ℕ} (r : Rest) → r ≡ record { count = count; last = last; next = next; valid = valid }
+    → Found s from count last next valid → Found s from (r .count) (r .last) (r .next) (r .valid)
+found-in r e f = rw e f
 
 pub scan-start : (s : List ℕ) (from : ℕ) → from ≤ length s → Scanned s from from 0 0 0
-scan-start s from h = record { along = omega arith; inside = h; counted = refl; lasting = refl; onward = refl }
+scan-start s from h = record { along = omega arith; inside = h; counted = refl; lasting = refl; onward = refl; checks = refl }
 
 module _ {s : List ℕ} {from p k count last : ℕ} (i : Scanned s from p k count last) where
   module _ {c n : ℕ} (e : decode (drop p s) ≡ Char c n) where
     here : codes (drop p s) ≡ c ∷ codes (drop (p + n) s)
     here = codes-at s p c n e (i .inside)
+
+    behind : SameCheck s from (p + n)
+    behind = i .checks ∙ check-at s p c n e (i .inside)
 
     pub scan-fits : (1 ≤ n) × (p + n ≤ length s)
     scan-fits = char-fits s p c n e (i .inside)
@@ -213,6 +226,7 @@ module _ {s : List ℕ} {from p k count last : ℕ} (i : Scanned s from p k coun
       counted = i .counted ∙ ends-white _ _ _ here _ _ f w;
       lasting = i .lasting ∙ lasts-white _ _ _ here _ f w;
       onward = i .onward ∙ after-more _ _ _ here f;
+      checks = behind;
     }
 
     pub scan-dark : (c ≡ 0x0A → ⊥) → white c ≡ false → Scanned s from (p + n) (k + 1) (k + 1) c
@@ -222,22 +236,26 @@ module _ {s : List ℕ} {from p k count last : ℕ} (i : Scanned s from p k coun
       counted = i .counted ∙ ends-dark _ _ _ here _ _ f w;
       lasting = i .lasting ∙ lasts-dark _ _ _ here _ f w;
       onward = i .onward ∙ after-more _ _ _ here f;
+      checks = behind;
     }
 
     -- a line feed
-    pub scan-feed : c ≡ 0x0A → RestAt s from count last (p + n)
-    scan-feed f = let l = scan-fits in record {
-      counted = sym (i .counted ∙ ends-feed _ _ _ here _ _ f) ∙ ends-line _;
-      lasting = sym (i .lasting ∙ lasts-feed _ _ _ here _ f) ∙ lasts-line _;
-      onward = sym (i .onward ∙ after-feed _ _ _ here f);
-      inside = omega arith;
-      along = omega arith;
-      further = λ h. omega arith;
-    }
+    pub scan-feed : c ≡ 0x0A → Found s from count last (p + n) (p + n)
+    scan-feed f = let l = scan-fits in (
+      record {
+        counted = sym (i .counted ∙ ends-feed _ _ _ here _ _ f) ∙ ends-line _;
+        lasting = sym (i .lasting ∙ lasts-feed _ _ _ here _ f) ∙ lasts-line _;
+        onward = sym (i .onward ∙ after-feed _ _ _ here f);
+        inside = omega arith;
+        along = omega arith;
+        further = λ h. omega arith;
+      },
+      record { same = behind; level = λ h. refl },
+    )
 
   -- nothing more
-  pub scan-stop : codes (drop p s) ≡ [] → RestAt s from count last (length s)
-  scan-stop e = record {
+  rest-stop : codes (drop p s) ≡ [] → RestAt s from count last (length s)
+  rest-stop e = record {
     counted = sym (i .counted ∙ ends-nil _ e _ _) ∙ ends-line _;
     lasting = sym (i .lasting ∙ lasts-nil _ e _) ∙ lasts-line _;
     onward = codes-end s (length s) (omega arith) ∙ sym (i .onward ∙ after-nil _ e);
@@ -246,14 +264,20 @@ module _ {s : List ℕ} {from p k count last : ℕ} (i : Scanned s from p k coun
     further = λ h. h;
   }
 
-  pub scan-end : length s ≤ p → RestAt s from count last p
-  scan-end h = let e : length s ≡ p = omega arith in let g = i .inside in subst (λ (m : ℕ). RestAt s from count last m) e (scan-stop (codes-end s p h))
+  pub scan-stop : codes (drop p s) ≡ [] → Found s from count last (length s) p
+  scan-stop e = (rest-stop e, record { same = i .checks; level = λ h. absurd (omega arith) })
+
+  pub scan-end : length s ≤ p → Found s from count last p p
+  scan-end h =
+      let e : length s ≡ p = omega (arith, i .inside) in
+      (subst (λ (m : ℕ). RestAt s from count last m) e (rest-stop (codes-end s p h)), record { same = i .checks; level = λ g. refl })
 
 -- the scan of the white space in front of a line has come to p
 pub record Skipped (s : List ℕ) (at p : ℕ) : Type 0 where
   pub along : at ≤ p
   pub inside : p ≤ length s
   pub led : lead (codes (drop at s)) ≡ lead (codes (drop p s))
+  pub checks : SameCheck s at p
 
 module _ {s : List ℕ} {at p : ℕ} (i : Skipped s at p) where
   module _ {c n : ℕ} (e : decode (drop p s) ≡ Char c n) where
@@ -264,7 +288,7 @@ module _ {s : List ℕ} {at p : ℕ} (i : Skipped s at p) where
     skip-fits = char-fits s p c n e (i .inside)
 
     pub skip-more : (c ≡ 0x0A → ⊥) → white c ≡ true → Skipped s at (p + n)
-    skip-more f w = let l = skip-fits in record { along = omega arith; inside = omega arith; led = i .led ∙ lead-white _ _ _ found f w }
+    skip-more f w = let l = skip-fits in record { along = omega arith; inside = omega arith; led = i .led ∙ lead-white _ _ _ found f w; checks = i .checks ∙ check-at s p c n e (i .inside) }
 
     pub skip-feed : c ≡ 0x0A → codes (drop p s) ≡ lead (codes (drop at s))
     skip-feed f = sym (i .led ∙ lead-feed _ _ _ found f)
@@ -297,3 +321,7 @@ line-of {s} {at} {from} {count} {last} {next} a f e r =
     go : at < length s → (from ≡ length s) ⊎ (from < length s) → at < next
     go h (inl q) = let z = r .along in omega arith
     go h (inr q) = let z = r .further q in omega arith
+
+-- the check passes over the white space in front too
+pub valid-of : {s : List ℕ} {at from next valid : ℕ} → SameCheck s at from → ValidTo s from next valid → ValidTo s at next valid
+valid-of e v = record { same = e ∙ v .same; level = v .level }

@@ -6,7 +6,7 @@ use lib.Dec.{eqb}
 use lib.ListN.{length, take, drop}
 use Rattle.lists.specs.Choose.{choose}
 use Rattle.unicode.specs.Trim.{trim}
-use Rattle.utf8.specs.Utf8.{codes}
+use Rattle.utf8.specs.Utf8.{codes, SameCheck}
 
 -- c in front of the first line
 abbrev pub join : ℕ → List (List ℕ) → List (List ℕ)
@@ -59,3 +59,8 @@ pub record LineAt (s : List ℕ) (at from count last next : ℕ) : Type 0 where
   pub onward : codes (drop next s) ≡ after (codes (drop at s))
   pub inside : next ≤ length s
   pub further : at < length s → at < next
+
+-- what reading from `at` up to `next` tells of UTF-8: a check goes on at `valid`, which is `next` where more is left to read
+pub record ValidTo (s : List ℕ) (at next valid : ℕ) : Type 0 where
+  pub same : SameCheck s at valid
+  pub level : next < length s → valid ≡ next

@@ -3,10 +3,10 @@ use utf8::Decoded;
 ghost use mathlib.Core.Path.{_≡_};
 ghost use Prim.Native.Nat.{_+_, _-_, _<_, _≤_};
 ghost use lib.ListN.{length, drop, take};
-ghost use Rattle.utf8.specs.Utf8.{codes};
+ghost use Rattle.utf8.specs.Utf8.{codes, SameCheck};
 ghost use Rattle.unicode.specs.White.{white};
 ghost use Rattle.unicode.specs.Trim.{trimStart, trimEnd, trim, trimStartUtf8, trimUtf8, PartIn};
-ghost use Rattle.unicode.specs.Lines.{LineAt};
+ghost use Rattle.unicode.specs.Lines.{LineAt, ValidTo};
 ghost use Rattle.unicode.specs.LineScan.{lead, Led, RestAt};
 
 // Whether a code point is White_Space, by the list of them.
@@ -28,16 +28,16 @@ fn listed(c: u32) -> bool
     }
 }
 
-// Whether a code point is White_Space. Between 0x20 and 0x85 none is, and above 0x205F only 0x3000.
+// Whether a code point is White_Space. Above 0x205F only 0x3000 is, and between 0x20 and 0x85 none.
 pub fn white_space(c: u32) -> bool
     ensures { λ r. ⌜ r ≡ white c ⌝ }
 {
+    if 0x205F < c {
+        return c == 0x3000;
+    }
     if 0x20 < c {
         if c < 0x85 {
             return false;
-        }
-        if 0x205F < c {
-            return c == 0x3000;
         }
         return listed(c);
     }
@@ -179,10 +179,10 @@ pub fn trim_utf8_part(s: &[u8], a: usize, e: usize) -> Part
     }
 }
 
-// Past the white space in front of a line.
+// Past the white space in front of a line, up to what is none or is ill-formed.
 fn skip_white(s: &[u8], at: usize) -> usize
     requires { ⌜ at ≤ length (now s) ⌝ }
-    ensures { λ r. ⌜ (at ≤ r) × (r ≤ length (now (s .entry))) × (codes (drop r (now (s .entry))) ≡ lead (codes (drop at (now (s .entry))))) ⌝ }
+    ensures { λ r. ⌜ (at ≤ r) × (r ≤ length (now (s .entry))) × (codes (drop r (now (s .entry))) ≡ lead (codes (drop at (now (s .entry))))) × SameCheck (now (s .entry)) at r ⌝ }
 {
     let mut p = at;
     while p < s.len() {
@@ -199,7 +199,7 @@ fn skip_white(s: &[u8], at: usize) -> usize
                 }
             }
             Decoded::IllFormed => {
-                return s.len();
+                return p;
             }
             Decoded::End => {
                 return p;
@@ -209,16 +209,30 @@ fn skip_white(s: &[u8], at: usize) -> usize
     p
 }
 
-// The rest of a line: how many code points are left without the white space at its end, the last of them, and where the next line starts.
+// The rest of a line: how many code points are left without the white space at its end, the last of them, where the next line starts, and up to where the bytes are valid.
 struct Rest {
     count: usize,
     last: u32,
     next: usize,
+    valid: usize,
 }
 
+fn rest_of(count: usize, last: u32, next: usize, valid: usize) -> Rest
+    ensures { λ r. ⌜ r ≡ record { count = count; last = last; next = next; valid = valid } ⌝ }
+{
+    Rest {
+        count,
+        last,
+        next,
+        valid,
+    }
+}
+
+// An ill-formed sequence ends the text.
 fn line_rest(s: &[u8], from: usize) -> Rest
     requires { ⌜ from ≤ length (now s) ⌝ }
-    ensures { λ r. ⌜ RestAt (now (s .entry)) from (r .count) (r .last) (r .next) ⌝ }
+    ensures rest { λ r. ⌜ RestAt (now (s .entry)) from (r .count) (r .last) (r .next) ⌝ }
+    ensures valid { λ r. ⌜ ValidTo (now (s .entry)) from (r .next) (r .valid) ⌝ }
 {
     let mut p = from;
     let mut k: usize = 0;
@@ -232,11 +246,7 @@ fn line_rest(s: &[u8], from: usize) -> Rest
                 k += 1;
                 if white_space(c) {
                     if c == 10 {
-                        return Rest {
-                            count,
-                            last,
-                            next: p,
-                        };
+                        return rest_of(count, last, p, p);
                     }
                 } else {
                     count = k;
@@ -244,39 +254,29 @@ fn line_rest(s: &[u8], from: usize) -> Rest
                 }
             }
             Decoded::IllFormed => {
-                return Rest {
-                    count,
-                    last,
-                    next: s.len(),
-                };
+                return rest_of(count, last, s.len(), p);
             }
             Decoded::End => {
-                return Rest {
-                    count,
-                    last,
-                    next: s.len(),
-                };
+                return rest_of(count, last, s.len(), p);
             }
         }
     }
-    Rest {
-        count,
-        last,
-        next: p,
-    }
+    rest_of(count, last, p, p)
 }
 
-// A line: where its trimmed text starts, how many code points that has, the last of them, and where the next line starts.
+// A line: where its trimmed text starts, how many code points that has, the last of them, where the next line starts, and up to where the bytes are valid.
 pub struct Line {
     pub from: usize,
     pub count: usize,
     pub last: u32,
     pub next: usize,
+    pub valid: usize,
 }
 
 pub fn line_at(s: &[u8], at: usize) -> Line
     requires { ⌜ at ≤ length (now s) ⌝ }
-    ensures { λ r. ⌜ LineAt (now (s .entry)) at (r .from) (r .count) (r .last) (r .next) ⌝ }
+    ensures line { λ r. ⌜ LineAt (now (s .entry)) at (r .from) (r .count) (r .last) (r .next) ⌝ }
+    ensures valid { λ r. ⌜ ValidTo (now (s .entry)) at (r .next) (r .valid) ⌝ }
 {
     let from = skip_white(s, at);
     let r = line_rest(s, from);
@@ -285,5 +285,6 @@ pub fn line_at(s: &[u8], at: usize) -> Line
         count: r.count,
         last: r.last,
         next: r.next,
+        valid: r.valid,
     }
 }

@@ -29,15 +29,15 @@ AllScalar [] = Unit {0}
 AllScalar (c ∷ s) = Scalar c × AllScalar s
 
 -- a number is at most another, or greater
-split : {P : Type 0} (a b : ℕ) → (a ≤ b → P) → (b < a → P) → P
+pub split : {P : Type 0} (a b : ℕ) → (a ≤ b → P) → (b < a → P) → P
 split a b f g = by-flag (leb a b) (λ e. f (leb-true a b e)) (λ e. g (leb-false a b e))
 
 -- digits of six bits
 module _ (c : ℕ) where
-  two-digits : c / 4096 ≡ c / 64 / 64
+  pub two-digits : c / 4096 ≡ c / 64 / 64
   two-digits = sym (div-div-eq-div-mul c 64 64)
 
-  three-digits : c / 262144 ≡ c / 64 / 64 / 64
+  pub three-digits : c / 262144 ≡ c / 64 / 64 / 64
   three-digits = sym (div-div-eq-div-mul c 4096 64) ∙ ap (λ (x : ℕ). x / 64) two-digits
 
 -- a number is in a range

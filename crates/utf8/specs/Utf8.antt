@@ -1,8 +1,10 @@
 -- UTF-8: the Unicode Standard's table 3-7, well-formed byte sequences, and table 3-6, the code point that one stands for.
 use mathlib.Core.Bool.{Bool, _&&_}
 use mathlib.Core.List.{List, [], _∷_, _++_}
+use mathlib.Core.Path.{_≡_}
 use Prim.Native.Nat.{ℕ, zero, suc, _+_, _-_, _*_, _/_, _%_}
 use lib.Dec.{leb}
+use lib.ListN.{drop}
 use Rattle.lists.specs.Choose.{choose}
 use Rattle.utf8.specs.declared.Decoded.{Decoded}
 use Rattle.utf8.specs.declared.Decoded.the-variants.{Char, IllFormed, End}
@@ -61,6 +63,12 @@ unfolding by more
 decode [] = End
 decode (a ∷ s) = by table a s
 
+-- a code point stands at a place of the bytes
+pub record StandsAt (s : List ℕ) (at : ℕ) : Type 0 where
+  pub code : ℕ
+  pub bytes : ℕ
+  pub decoded : decode (drop at s) ≡ Char code bytes
+
 -- what follows a sequence at the front of a list: at a code point of n bytes, `rest` of the code point with n - 1 bytes to pass over; else `stop`
 abbrev pub onward : {A : Type 0} → Decoded → A → (ℕ → ℕ → A) → A
 onward (Char c n) stop rest = rest c (n - 1)
@@ -75,6 +83,10 @@ check zero at (b ∷ s) = onward (decode (b ∷ s)) (Invalid at) (λ c skip. che
 
 abbrev pub checked : List ℕ → Checked
 checked s = check 0 0 s
+
+-- a check from one place answers what a check from the other does
+abbrev pub SameCheck : List ℕ → ℕ → ℕ → Type 0
+SameCheck s at to = check 0 at (drop at s) ≡ check 0 to (drop to s)
 
 -- a check's answer: what follows for well-formed bytes, or for the index of the first ill-formed sequence
 abbrev pub onText : {A : Type 0} → Checked → (ℕ → A) → A → A

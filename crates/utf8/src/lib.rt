@@ -4,7 +4,7 @@ ghost use mathlib.Core.Path.{_≡_};
 ghost use Prim.Native.Nat.{_+_, _-_, _<_, _≤_};
 ghost use lib.ListN.{length, drop, set};
 ghost use Rattle.lists.specs.Put.{put};
-ghost use Rattle.utf8.specs.Utf8.{more, decode, tail, _–_, checked, encode};
+ghost use Rattle.utf8.specs.Utf8.{more, decode, StandsAt, tail, _–_, check, checked, encode};
 ghost use Rattle.utf8.specs.Passed.{codeOf, bytesOf};
 
 // What stands at a place: a code point with its number of bytes, an ill-formed sequence, or nothing.
@@ -179,6 +179,42 @@ pub fn next(s: &[u8], at: usize) -> Decoded
     Decoded::Char(c, 4)
 }
 
+// A code point with its number of bytes.
+pub struct CodePoint {
+    pub code: u32,
+    pub bytes: usize,
+}
+
+// The code point that is known to stand at a place: nothing of it is tested.
+pub fn known(s: &[u8], at: usize) -> CodePoint
+    requires { ⌜ StandsAt (now s) at ⌝ }
+    ensures { λ r. ⌜ decode (drop at (now (s .entry))) ≡ Decoded.Char (r .code) (r .bytes) ⌝ }
+{
+    let a = s[at] as u32;
+    if a <= 0x7F {
+        return CodePoint { code: a, bytes: 1 };
+    }
+    let b = s[at + 1] as u32;
+    if a <= 0xDF {
+        return CodePoint {
+            code: a * 64 + b - 0x3080,
+            bytes: 2,
+        };
+    }
+    let c = s[at + 2] as u32;
+    if a <= 0xEF {
+        return CodePoint {
+            code: a * 4096 + b * 64 + c - 0xE2080,
+            bytes: 3,
+        };
+    }
+    let d = s[at + 3] as u32;
+    CodePoint {
+        code: a * 262144 + b * 4096 + c * 64 + d - 0x3C82080,
+        bytes: 4,
+    }
+}
+
 // Whether all bytes are well-formed, or else the index of the first sequence that is not.
 pub enum Checked {
     Valid,
@@ -225,10 +261,11 @@ fn passed(s: &[u8], at: usize) -> usize
     4
 }
 
-pub fn validate(s: &[u8]) -> Checked
-    ensures { λ r. ⌜ r ≡ checked (now (s .entry)) ⌝ }
+// The check of the bytes from an index on.
+pub fn validate_from(s: &[u8], from: usize) -> Checked
+    ensures { λ r. ⌜ r ≡ check 0 from (drop from (now (s .entry))) ⌝ }
 {
-    let mut at = 0;
+    let mut at = from;
     while at < s.len() {
         let n = passed(s, at);
         if n == 0 {
@@ -237,6 +274,12 @@ pub fn validate(s: &[u8]) -> Checked
         at += n;
     }
     Checked::Valid
+}
+
+pub fn validate(s: &[u8]) -> Checked
+    ensures { λ r. ⌜ r ≡ checked (now (s .entry)) ⌝ }
+{
+    validate_from(s, 0)
 }
 
 fn put_byte(out: &mut [u8], at: usize, b: u32)

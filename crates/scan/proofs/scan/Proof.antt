@@ -1,4 +1,5 @@
 -- `scan::scan` meets its contract.
+use mathlib.Core.Path.{_∙_}
 use Prim.Native.Nat.{_≤_}
 use native.Mathlib.Omega.{arith}
 use borrow.Author.Needs.{needs}
@@ -25,14 +26,14 @@ returns c =
     let measured = c .before .before in
     let found = measured .before .before in
     let a = start found .args in
-    scan-rows (found .sheet-start .ensures) (measured .measure .ensures .0) (a .text .now) (a .body .now) (omega arith)
+    scan-rows (found .sheet-start .ensures .0) (measured .measure .ensures .0) (a .text .now) (a .body .now) (omega arith)
 
 returns-2 : tie.Need-returns-2
 returns-2 c =
     let measured = c .before .before .before in
     let found = measured .before .before in
     let a = start found .args in
-    scan-columns (found .sheet-start .ensures) (measured .measure .ensures .0) (a .text .now) (a .body .now) (omega arith)
+    scan-columns (found .sheet-start .ensures .0) (measured .measure .ensures .0) (a .text .now) (a .body .now) (omega arith)
 
 slice-aggregate-write-rows : tie.Need-slice-aggregate-write-rows
 slice-aggregate-write-rows c = search needs
@@ -44,7 +45,7 @@ write-rows-requires c κs =
     let found = measured .before .before in
     let a = start found .args in
     let h : measured .measure .result .rows ≤ canvasRows = omega arith in
-    scan-room (found .sheet-start .ensures) (measured .measure .ensures .0) (a .text .now) (a .body .now) h (omega arith) (measured .measure .ensures .1 h) (omega (arith, measured .measure .kept .1 .1 .0)) (start found .pre .1) (start found .pre .2)
+    scan-room (found .sheet-start .ensures .0) (measured .measure .ensures .0) (a .text .now) (a .body .now) h (omega arith) (measured .measure .ensures .1 .0 h) (omega (arith, measured .measure .kept .1 .1 .1 .0)) (start found .pre .1) (start found .pre .2)
 
 same-length : tie.Need-same-length
 same-length c = search needs
@@ -60,7 +61,7 @@ returns-3 c =
     let found = measured .before .before in
     let a = start found .args in
     let h : measured .measure .result .rows ≤ canvasRows = omega arith in
-    scan-canvas (found .sheet-start .ensures) (measured .measure .ensures .0) (a .text .now) (a .body .now) h (omega arith) (measured .measure .ensures .1 h) (wrote .write-rows .ensures)
+    scan-canvas (found .sheet-start .ensures .0) (measured .measure .ensures .0) (a .text .now) (a .body .now) h (omega arith) (measured .measure .ensures .1 .0 h) _ (found .sheet-start .ensures .1 .same ∙ measured .measure .ensures .1 .1) (wrote .write-rows .ensures)
 
 pub scan-spec : {M : Type 1} → statement M
 scan-spec =

@@ -1,5 +1,5 @@
 -- `unicode::line_at` meets its contract.
-use Rattle.unicode.proofs.LineLaws.{line-of}
+use Rattle.unicode.proofs.LineLaws.{line-of, valid-of}
 use borrow.Author.Needs.{needs}
 use Rattle.unicode.proofs.line_at.Statement.{statement}
 use Rattle.unicode.proofs.line_at.Tie as tie
@@ -13,7 +13,8 @@ line-rest-requires c κs = search needs
 returns : tie.Need-returns
 returns c =
     let k = c .before .skip-white .ensures in
-    line-of (k .0) (k .1) (k .2) (c .line-rest .ensures)
+    let r = c .line-rest .ensures in
+    (line-of (k .0) (k .1) (k .2) (r .0), valid-of (k .3) (r .1))
 
 pub line-at-spec : {M : Type 1} → statement M
 line-at-spec = tie.close (tie.spec skip-white-requires line-rest-requires returns)

@@ -3,7 +3,7 @@ use Rattle.utf8.specs.Utf8.{decode}
 use Rattle.utf8.specs.declared.Decoded.the-variants.{Char}
 use Rattle.utf8.proofs.Utf8Laws.{codes-bad, codes-none}
 use Rattle.unicode.proofs.WhiteLaws.{dark-no-feed}
-use Rattle.unicode.proofs.LineLaws.{Scanned, scan-start, scan-fits, scan-white, scan-dark, scan-feed, scan-stop, scan-end}
+use Rattle.unicode.proofs.LineLaws.{Scanned, scan-start, scan-fits, scan-white, scan-dark, scan-feed, scan-stop, scan-end, found-in}
 use mathlib.Core.Path.{_≡_, sym, _∙_}
 use Prim.Native.Nat.{_-_}
 use native.Mathlib.Omega.{arith}
@@ -44,8 +44,11 @@ add-k c = omega (arith, scan-fits (turn c .loop .inv) (char c))
 white-space-requires : tie.Need-white-space-requires Inv-loop μ-loop
 white-space-requires c κs = search needs
 
+rest-of-requires : tie.Need-rest-of-requires Inv-loop μ-loop
+rest-of-requires c κs = search needs
+
 returns : tie.Need-returns Inv-loop μ-loop
-returns c = let k = c .before .before .before in scan-feed (turn k .loop .inv) (char k) (c .if2 .taken)
+returns c = let k = c .before .before .before .before in found-in _ (c .rest-of .ensures) (scan-feed (turn k .loop .inv) (char k) (c .before .if2 .taken))
 
 loop-less : tie.Need-loop-less Inv-loop μ-loop
 loop-less c = let k = c .before .before .before in omega (arith, scan-fits (turn k .loop .inv) (char k))
@@ -67,17 +70,30 @@ loop-again-2 c =
 enum-told : tie.Need-enum-told Inv-loop μ-loop
 enum-told c = search needs
 
+rest-of-requires-2 : tie.Need-rest-of-requires-2 Inv-loop μ-loop
+rest-of-requires-2 c κs = search needs
+
 returns-2 : tie.Need-returns-2 Inv-loop μ-loop
-returns-2 c = scan-stop (c .before .before .before .before .loop .inv) (codes-bad _ (sym (c .before .before .next .ensures) ∙ c .enum-told .given .1))
+returns-2 c =
+    let t = c .before in
+    found-in _ (c .rest-of2 .ensures) (scan-stop (t .before .before .before .before .loop .inv) (codes-bad _ (sym (t .before .before .next .ensures) ∙ t .enum-told .given .1)))
 
 enum-told-2 : tie.Need-enum-told-2 Inv-loop μ-loop
 enum-told-2 c = search needs
 
+rest-of-requires-3 : tie.Need-rest-of-requires-3 Inv-loop μ-loop
+rest-of-requires-3 c κs = search needs
+
 returns-3 : tie.Need-returns-3 Inv-loop μ-loop
-returns-3 c = scan-stop (c .before .before .before .before .loop .inv) (codes-none _ (sym (c .before .before .next .ensures) ∙ c .enum-told2 .given .1))
+returns-3 c =
+    let t = c .before in
+    found-in _ (c .rest-of3 .ensures) (scan-stop (t .before .before .before .before .loop .inv) (codes-none _ (sym (t .before .before .next .ensures) ∙ t .enum-told2 .given .1)))
+
+rest-of-requires-4 : tie.Need-rest-of-requires-4 Inv-loop μ-loop
+rest-of-requires-4 c κs = search needs
 
 returns-4 : tie.Need-returns-4 Inv-loop μ-loop
-returns-4 c = scan-end (c .before .loop .inv) (c .loop-test .left)
+returns-4 c = found-in _ (c .rest-of4 .ensures) (scan-end (c .before .before .loop .inv) (c .before .loop-test .left))
 
 pub line-rest-spec : {M : Type 1} → statement M
 line-rest-spec =
@@ -91,13 +107,17 @@ line-rest-spec =
     add-p
     add-k
     white-space-requires
+    rest-of-requires
     returns
     loop-less
     loop-again
     loop-less-2
     loop-again-2
     enum-told
+    rest-of-requires-2
     returns-2
     enum-told-2
+    rest-of-requires-3
     returns-3
+    rest-of-requires-4
     returns-4)

@@ -9,10 +9,10 @@ use Rattle.unicode.proofs.white_space.Statement.{statement}
 use Rattle.unicode.proofs.white_space.Tie as tie
 
 returns : tie.Need-returns
-returns c = dark-ascii _ (omega arith) (omega arith)
+returns c = white-high _ (omega arith)
 
 returns-2 : tie.Need-returns-2
-returns-2 c = white-high _ (omega arith)
+returns-2 c = dark-ascii _ (omega arith) (omega arith)
 
 listed-requires : tie.Need-listed-requires
 listed-requires c κs = search needs

@@ -1,4 +1,4 @@
--- `utf8::validate` meets its contract.
+-- `utf8::validate_from` meets its contract.
 use mathlib.Core.Path.{_≡_, refl, sym, _∙_}
 use mathlib.Core.List.{List}
 use Prim.Native.Nat.{ℕ, _+_, _-_, _≤_}
@@ -6,21 +6,21 @@ use native.Mathlib.Omega.{arith}
 use borrow.Author.Needs.{needs}
 use lib.ListN.{length, drop}
 use Rattle.utf8.specs.declared.Decoded.the-variants.{Char}
-use Rattle.utf8.specs.Utf8.{decode, check}
+use Rattle.utf8.specs.Utf8.{decode, SameCheck}
 use Rattle.utf8.specs.Passed.{codeOf}
 use Rattle.utf8.proofs.Utf8Laws.{char-fits, check-at, check-bad, check-end}
 use Rattle.utf8.proofs.RareLaws.{passed-bad, passed-char}
-use Rattle.utf8.proofs.validate.Statement.{statement}
-use Rattle.utf8.proofs.validate.Tie as tie
+use Rattle.utf8.proofs.validate_from.Statement.{statement}
+use Rattle.utf8.proofs.validate_from.Tie as tie
 
 abbrev Inv-loop : tie.InvT-loop
-Inv-loop s at₀ at = (at ≤ length s) × (check 0 0 s ≡ check 0 at (drop at s))
+Inv-loop s from at₀ at = SameCheck s from at
 
 abbrev μ-loop : tie.MeasureT-loop
-μ-loop s at₀ at = length s - at
+μ-loop s from at₀ at = length s - at
 
 loop-holds : tie.Need-loop-holds Inv-loop μ-loop
-loop-holds c = (search needs, refl)
+loop-holds c = refl
 
 passed-requires : tie.Need-passed-requires Inv-loop μ-loop
 passed-requires c κs = search needs
@@ -34,7 +34,7 @@ at c = c .before .before .loop .at
 returns : tie.Need-returns Inv-loop μ-loop
 returns c =
     let p = c .before in
-    sym (p .before .before .loop .inv .1 ∙ check-bad (at p) _ (passed-bad (S p) (at p) (p .before .loop-test .taken) _ (p .passed .ensures) (c .if1 .taken)))
+    sym (p .before .before .loop .inv ∙ check-bad (at p) _ (passed-bad (S p) (at p) (p .before .loop-test .taken) _ (p .passed .ensures) (c .if1 .taken)))
 
 -- a code point
 module _ (c : tie.After-passed Inv-loop μ-loop) (f : c .passed .result ≡ 0 → ⊥) where
@@ -53,13 +53,13 @@ loop-less c = omega (arith, fits (c .before) (c .if1 .left))
 loop-again : tie.Need-loop-again Inv-loop μ-loop
 loop-again c =
     let p = c .before in
-    (fits p (c .if1 .left) .1, p .before .before .loop .inv .1 ∙ check-at (S p) (at p) _ (p .passed .result) (char p (c .if1 .left)) (search needs))
+    p .before .before .loop .inv ∙ check-at (S p) (at p) _ (p .passed .result) (char p (c .if1 .left)) (search needs)
 
 returns-2 : tie.Need-returns-2 Inv-loop μ-loop
-returns-2 c = sym (c .before .loop .inv .1 ∙ check-end _ (c .before .loop .at) (search needs))
+returns-2 c = sym (c .before .loop .inv ∙ check-end _ (c .before .loop .at) (search needs))
 
-pub validate-spec : {M : Type 1} → statement M
-validate-spec =
+pub validate-from-spec : {M : Type 1} → statement M
+validate-from-spec =
     tie.close
     (tie.spec
     Inv-loop
