@@ -1,3 +1,2 @@
--- Laws of the entries.
-pub mod RoomLaws
-pub mod EndLaws
+-- Laws of the whole reader.
+mod RoomLaws

@@ -1,4 +1,4 @@
--- The work slices of the entries have room.
+-- The work slices of the whole reader have room.
 use mathlib.Core.List.{List, [], _∷_, map}
 use Prim.Native.Nat.{ℕ, _≤_}
 use lib.ListN.{length}
@@ -6,8 +6,7 @@ use Rattle.model.specs.Limits.{textBytes}
 use Rattle.room.specs.Room.{Roomy}
 use Rattle.room.proofs.RoomLaws.{at-least}
 use Rattle.drawn_planes.specs.DrawnTable.{DrawnRoom}
-use Rattle.lent_records.specs.LentTable.{LentRoom}
-use Rattle.builder.specs.Entries.{sheetSizes, lentSizes}
+use Rattle.builder.specs.SheetEnd.{sheetSizes}
 
 -- the slices of a drawing's table, and the scratch slice
 pub sheet-room : (t m b g rects spans d bytes scratch : List ℕ) → Roomy (t ∷ m ∷ b ∷ g ∷ rects ∷ spans ∷ d ∷ bytes ∷ scratch ∷ []) sheetSizes
@@ -22,13 +21,4 @@ sheet-room t m b g rects spans d bytes scratch e =
         allTexts = a .1 .1 .1 .1 .1 .1 .1 .0;
       },
       a .1 .1 .1 .1 .1 .1 .1 .1 .0,
-    )
-
--- the slices of a lent plane's table, and the scratch slice
-pub lent-room : (d spans upright slots scratch : List ℕ) → Roomy (d ∷ spans ∷ upright ∷ slots ∷ scratch ∷ []) lentSizes
-    → LentRoom d spans upright slots × (textBytes ≤ length scratch)
-lent-room d spans upright slots scratch e =
-    let a = at-least 0 (map length (d ∷ spans ∷ upright ∷ slots ∷ scratch ∷ [])) lentSizes e in (
-      record { lent = record { size = a .0; twoEach = a .1 .0 }; sheet = a .1 .1 .0; room = a .1 .1 .1 .0 },
-      a .1 .1 .1 .1 .0,
     )

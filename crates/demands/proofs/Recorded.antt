@@ -16,7 +16,7 @@ use Rattle.record.specs.Policy.{Policy}
 use Rattle.record.specs.Record.{total, encode, tableOf}
 use Rattle.recognizer.specs.Told.{tableRead}
 use Rattle.room.specs.Room.{roomFrom}
-use Rattle.builder.specs.Ends.{End, endBy, endOf}
+use Rattle.ends.specs.Ends.{End, endBy, endOf}
 use Rattle.records.specs.Outcomes.{outcomeOf}
 use Rattle.records.specs.declared.Outcome.the-variants.{Record, Refused}
 use Rattle.policies.specs.DrawnPolicy.{walkedPolicy}

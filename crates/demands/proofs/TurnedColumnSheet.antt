@@ -26,8 +26,8 @@ use Rattle.policies.specs.TurnedPlane.{turnedPlane}
 use Rattle.policies.proofs.TurnedPolicy.{policyInRows, turned-policy}
 use Rattle.recognizer.specs.Told.{tableRead}
 use Rattle.room.specs.Room.{roomFrom}
-use Rattle.builder.specs.Ends.{End, endBy, endOf}
-use Rattle.builder.specs.Entries.{lentSizes, lentEnd}
+use Rattle.ends.specs.Ends.{End, endBy, endOf}
+use Rattle.lent_builder.specs.LentEnd.{lentSizes, lentEnd}
 use Rattle.records.specs.declared.Outcome.the-variants.{Record, Refused}
 use Rattle.demands.proofs.Recorded.{recorded}
 use Rattle.demands.proofs.SamePolicySameRecord.{told-apart}

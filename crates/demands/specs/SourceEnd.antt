@@ -2,8 +2,9 @@
 use mathlib.Core.List.{List}
 use Prim.Native.Nat.{ℕ}
 use Rattle.policies.specs.Source.{Source, drawing, plane}
-use Rattle.builder.specs.Ends.{End}
-use Rattle.builder.specs.Entries.{sheetEnd, lentEnd}
+use Rattle.ends.specs.Ends.{End}
+use Rattle.builder.specs.SheetEnd.{sheetEnd}
+use Rattle.lent_builder.specs.LentEnd.{lentEnd}
 
 -- of the whole reader, or of the table from a lent plane, with whatever slices
 abbrev pub sourceEnd : Source → List (List ℕ) → List ℕ → End

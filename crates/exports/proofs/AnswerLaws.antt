@@ -1,6 +1,6 @@
 -- The numbers of an end.
 use mathlib.Core.Path.{_≡_, sym, ap, _∙_}
-use Rattle.builder.specs.Ends.{End}
+use Rattle.ends.specs.Ends.{End}
 use Rattle.numbers.specs.Answers.{answerOf}
 use Rattle.numbers.specs.declared.Answer.{Answer}
 

@@ -3,7 +3,8 @@ use numbers::Answer;
 use numbers::SplitAnswer;
 ghost use mathlib.Core.List.{[], _∷_};
 ghost use mathlib.Core.Path.{_≡_};
-ghost use Rattle.builder.specs.Entries.{sheetEnd, lentEnd};
+ghost use Rattle.builder.specs.SheetEnd.{sheetEnd};
+ghost use Rattle.lent_builder.specs.LentEnd.{lentEnd};
 ghost use Rattle.numbers.specs.Answers.{answerOf, SplitTold};
 
 // The whole reader.
@@ -61,7 +62,7 @@ pub extern "C" fn fezandimo_read_lent_plane(
     ensures works { λ _. ⌜ (now (plane .exit) ∷ now (spans .exit) ∷ now (upright .exit) ∷ now (slots .exit) ∷ now (scratch .exit) ∷ []) ≡ lentEnd (record { rows = now (rows .entry); kinds = now (kinds .entry); regions = now (regions .entry); offsets = now (offsets .entry); sizes = now (sizes .entry); bytes = now (bytes .entry) }) (now (plane .entry) ∷ now (spans .entry) ∷ now (upright .entry) ∷ now (slots .entry) ∷ now (scratch .entry) ∷ []) (now (out .entry)) .works ⌝ }
     ensures out { λ _. ⌜ now (out .exit) ≡ lentEnd (record { rows = now (rows .entry); kinds = now (kinds .entry); regions = now (regions .entry); offsets = now (offsets .entry); sizes = now (sizes .entry); bytes = now (bytes .entry) }) (now (plane .entry) ∷ now (spans .entry) ∷ now (upright .entry) ∷ now (slots .entry) ∷ now (scratch .entry) ∷ []) (now (out .entry)) .out ⌝ }
 {
-    let o = builder::read_lent_plane(
+    let o = lent_builder::read_lent_plane(
         rows,
         kinds,
         regions,

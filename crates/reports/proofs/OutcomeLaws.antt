@@ -33,7 +33,7 @@ use Rattle.listing.proofs.SoundLaws.{put-sound}
 use Rattle.records.specs.Outcomes.{outcomeOf, recordOf}
 use Rattle.room.specs.Room.{roomFrom}
 use Rattle.room.proofs.RoomLaws.{room-exact}
-use Rattle.builder.specs.Ends.{End, endBy, endOf}
+use Rattle.ends.specs.Ends.{End, endBy, endOf}
 use Rattle.records.specs.declared.Outcome.{Outcome}
 use Rattle.reports.specs.Outcomes.{outcomeLines, OutcomeSound}
 use Rattle.reports.specs.PolicyLines.{policyLines}

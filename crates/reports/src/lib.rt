@@ -78,7 +78,7 @@ pub fn put_lent_plane(
     let mut slots = [0u32; 12480];
     let mut scratch = [0u8; TEXT_BYTES];
     let mut record = [0u8; RECORD_BYTES];
-    let stated = builder::read_lent_plane(
+    let stated = lent_builder::read_lent_plane(
         rows,
         kinds,
         regions,

@@ -20,15 +20,15 @@ use Reach::{No, Open, Yes};
 
 /// The laws and definitions, by crate.
 const NOT_LENT: Reach =
-    No("builder Entries.sheetEnd, which read_sheet promises: lentOf alone gives 26");
+    No("builder SheetEnd.sheetEnd, which read_sheet promises: lentOf alone gives 26");
 const NOT_DRAWN: Reach = No(
-    "builder Entries.lentEnd, which read_lent_plane promises: lentOf and statedPolicy give 8 to 26 alone",
+    "lent_builder LentEnd.lentEnd, which read_lent_plane promises: lentOf and statedPolicy give 8 to 26 alone",
 );
 const NOT_SPLIT: Reach = No("utils Split.splitOf, which split_values promises: 1 and 27 alone");
 const NO_SPLIT: Reach = No("an answer of the split");
 const TWO_SIZES: Reach = No("clauses OnlyTwoSizes.only-two-sizes: checks 8 and 12 alone");
-const FIVE: Reach = No("builder Entries.lentSizes: five work slices");
-const NINE: Reach = No("builder Entries.sheetSizes: nine work slices");
+const FIVE: Reach = No("lent_builder LentEnd.lentSizes: five work slices");
+const NINE: Reach = No("builder SheetEnd.sheetSizes: nine work slices");
 const HAS_ROW: Reach =
     No("policies DrawnNotEmpty.walked-not-empty: the main crossing has a line row");
 const HAS_CORNERS: Reach =

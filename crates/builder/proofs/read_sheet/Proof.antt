@@ -4,8 +4,8 @@ use mathlib.Core.Path.{sym, ap, _∙_}
 use Prim.Native.Nat.{ℕ}
 use Rattle.policies.specs.DrawnPolicy.{walkedPolicy}
 use Rattle.room.specs.Room.{roomIn}
-use Rattle.builder.specs.Entries.{sheetSizes}
-use Rattle.builder.proofs.EndLaws.{end-short}
+use Rattle.builder.specs.SheetEnd.{sheetSizes}
+use Rattle.ends.proofs.EndLaws.{end-short}
 use borrow.Author.Needs.{needs}
 use Rattle.builder.proofs.read_sheet.Statement.{statement}
 use Rattle.builder.proofs.read_sheet.Tie as tie

@@ -3,8 +3,8 @@ use mathlib.Core.List.{List, [], _∷_}
 use mathlib.Core.Path.{_∙_}
 use Prim.Native.Nat.{ℕ}
 use Rattle.policies.specs.DrawnPolicy.{walkedPolicy}
-use Rattle.builder.specs.Entries.{sheetSizes}
-use Rattle.builder.proofs.EndLaws.{Cleared, none, one, cleared-all, zeros-same, end-cleared}
+use Rattle.builder.specs.SheetEnd.{sheetSizes}
+use Rattle.ends.proofs.EndLaws.{Cleared, none, one, cleared-all, zeros-same, end-cleared}
 use Rattle.builder.proofs.RoomLaws.{sheet-room}
 use borrow.Author.Needs.{needs}
 use Rattle.builder.proofs.sheet_cleared.Statement.{statement}

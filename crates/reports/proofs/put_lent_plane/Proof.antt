@@ -2,7 +2,7 @@
 use Rattle.lent.specs.LentPlane.{LentPlane}
 use Rattle.policies.specs.LentPolicy.{lentPolicy}
 use Rattle.print.proofs.WrittenLaws.{written-as}
-use Rattle.builder.specs.Entries.{lentSizes}
+use Rattle.lent_builder.specs.LentEnd.{lentSizes}
 use Rattle.reports.specs.PolicyLines.{recordBytes}
 use Rattle.reports.proofs.OutcomeLaws.{Reported, lent-printable, end-reported}
 use native.Mathlib.Omega.{arith}

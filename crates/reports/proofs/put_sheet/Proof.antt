@@ -1,7 +1,7 @@
 -- `reports::put_sheet` meets its contract.
 use Rattle.policies.specs.DrawnPolicy.{walkedPolicy}
 use Rattle.print.proofs.WrittenLaws.{written-as}
-use Rattle.builder.specs.Entries.{sheetSizes}
+use Rattle.builder.specs.SheetEnd.{sheetSizes}
 use Rattle.reports.specs.PolicyLines.{recordBytes}
 use Rattle.reports.proofs.OutcomeLaws.{Reported, drawn-printable, end-reported}
 use native.Mathlib.Omega.{arith}

@@ -13,7 +13,7 @@ use Rattle.records.specs.Outcomes.{outcomeOf, recordOf}
 use Rattle.records.specs.declared.Outcome.{Outcome}
 use Rattle.records.specs.declared.Outcome.the-variants.{Refused}
 use Rattle.room.specs.Room.{roomFrom, Roomy}
-use Rattle.builder.specs.Ends.{endOf}
+use Rattle.ends.specs.Ends.{endOf}
 
 -- a call with work slices of their lengths, which are cleared at its end
 pub end-cleared : (sizes : List ℕ) (m : Reading Policy) (works cleared : List (List ℕ)) (out o : List ℕ) (r : Outcome) → Roomy works sizes

@@ -1,15 +1,15 @@
--- `builder::read_lent_plane` meets its contract.
+-- `lent_builder::read_lent_plane` meets its contract.
 use mathlib.Core.List.{List, [], _∷_}
 use mathlib.Core.Path.{sym, ap, _∙_}
 use Prim.Native.Nat.{ℕ}
 use Rattle.lent.specs.LentPlane.{LentPlane}
 use Rattle.policies.specs.LentPolicy.{lentPolicy}
 use Rattle.room.specs.Room.{roomIn}
-use Rattle.builder.specs.Entries.{lentSizes}
-use Rattle.builder.proofs.EndLaws.{end-short}
+use Rattle.lent_builder.specs.LentEnd.{lentSizes}
+use Rattle.ends.proofs.EndLaws.{end-short}
 use borrow.Author.Needs.{needs}
-use Rattle.builder.proofs.read_lent_plane.Statement.{statement}
-use Rattle.builder.proofs.read_lent_plane.Tie as tie
+use Rattle.lent_builder.proofs.read_lent_plane.Statement.{statement}
+use Rattle.lent_builder.proofs.read_lent_plane.Tie as tie
 
 abbrev works : tie.Start → List (List ℕ)
 works s = s .args .plane .now ∷ s .args .spans .now ∷ s .args .upright .now ∷ s .args .slots .now ∷ s .args .scratch .now ∷ []

@@ -1,15 +1,15 @@
--- `builder::lent_cleared` meets its contract.
+-- `lent_builder::lent_cleared` meets its contract.
 use mathlib.Core.List.{List, [], _∷_}
 use mathlib.Core.Path.{_∙_}
 use Prim.Native.Nat.{ℕ}
 use Rattle.lent.specs.LentPlane.{LentPlane}
 use Rattle.policies.specs.LentPolicy.{lentPolicy}
-use Rattle.builder.specs.Entries.{lentSizes}
-use Rattle.builder.proofs.EndLaws.{Cleared, none, one, cleared-all, zeros-same, end-cleared}
-use Rattle.builder.proofs.RoomLaws.{lent-room}
+use Rattle.lent_builder.specs.LentEnd.{lentSizes}
+use Rattle.ends.proofs.EndLaws.{Cleared, none, one, cleared-all, zeros-same, end-cleared}
+use Rattle.lent_builder.proofs.RoomLaws.{lent-room}
 use borrow.Author.Needs.{needs}
-use Rattle.builder.proofs.lent_cleared.Statement.{statement}
-use Rattle.builder.proofs.lent_cleared.Tie as tie
+use Rattle.lent_builder.proofs.lent_cleared.Statement.{statement}
+use Rattle.lent_builder.proofs.lent_cleared.Tie as tie
 
 -- the record that was made, by its places
 abbrev made : tie.After-slice-known17 → tie.After-lent-record

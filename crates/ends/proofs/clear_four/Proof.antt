@@ -1,7 +1,7 @@
--- `builder::clear_four` meets its contract.
+-- `ends::clear_four` meets its contract.
 use borrow.Author.Needs.{needs}
-use Rattle.builder.proofs.clear_four.Statement.{statement}
-use Rattle.builder.proofs.clear_four.Tie as tie
+use Rattle.ends.proofs.clear_four.Statement.{statement}
+use Rattle.ends.proofs.clear_four.Tie as tie
 
 clear-u32-requires : tie.Need-clear-u32-requires
 clear-u32-requires c κs = search needs

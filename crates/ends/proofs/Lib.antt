@@ -1,0 +1,2 @@
+-- Laws of the ends of calls.
+pub mod EndLaws

@@ -1,0 +1,2 @@
+-- Laws of the table from a lent plane.
+mod RoomLaws
