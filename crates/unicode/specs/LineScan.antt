@@ -5,7 +5,7 @@ use Prim.Native.Nat.{ℕ, _≤_, _<_}
 use lib.Dec.{eqb}
 use lib.ListN.{length, drop}
 use Rattle.lists.specs.Choose.{choose}
-use Rattle.utf8.specs.Utf8.{check, codes}
+use Rattle.utf8.specs.Utf8.{codes, SameCheck}
 use Rattle.unicode.specs.White.{white}
 use Rattle.unicode.specs.Trim.{trimStart, trimEnd}
 use Rattle.unicode.specs.Lines.{line, after, lastOf}
@@ -19,7 +19,7 @@ lead (c ∷ s) = choose (eqb c 0x0A) (c ∷ s) (choose (white c) (lead s) (c ∷
 pub record Led (s : List ℕ) (p : ℕ) : Type 0 where
   pub inside : p ≤ length s
   pub same : trimStart (codes s) ≡ codes (drop p s)
-  pub checks : check 0 0 s ≡ check 0 p (drop p s)
+  pub checks : SameCheck s 0 p
 
 -- the rest of a line: its length without the white space at the end, its last code point, and where the next line starts
 pub record RestAt (s : List ℕ) (from count last next : ℕ) : Type 0 where
