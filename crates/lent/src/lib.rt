@@ -81,7 +81,7 @@ fn is_text(bytes: &[u8], offset: usize, size: usize) -> bool
     if bytes.len() < end {
         return false;
     }
-    match utf8::validate(&bytes[offset..end]) {
+    match code_points::validate(&bytes[offset..end]) {
         Checked::Valid => true,
         Checked::Invalid(_) => false,
     }

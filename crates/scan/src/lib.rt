@@ -132,7 +132,7 @@ fn put_codes(s: &[u8], from: usize, count: usize, out: &mut [u32], base: usize)
     let mut p = from;
     let mut i: usize = 0;
     while i < count {
-        let d = utf8::known(s, p);
+        let d = code_points::known(s, p);
         out[base + i] = d.code;
         p += d.bytes;
         i += 1;

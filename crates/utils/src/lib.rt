@@ -112,7 +112,7 @@ pub fn split_values(text: &[u8], scratch: &mut [u8]) -> Split
     ensures places { λ r. ⌜ Places r (now (text .entry)) (now (scratch .exit)) ⌝ }
     ensures scratch { λ _. ⌜ now (scratch .exit) ≡ scratchOf (now (text .entry)) (now (scratch .entry)) ⌝ }
 {
-    match utf8::validate(text) {
+    match code_points::validate(text) {
         Checked::Invalid(at) => Split::NotSplit(Refusal::InvalidUtf8(at)),
         Checked::Valid => split_text(text, scratch),
     }

@@ -1,9 +1,9 @@
--- `utf8::known` meets its contract.
+-- `code_points::known` meets its contract.
 use native.Mathlib.Omega.{arith}
 use borrow.Author.Needs.{needs}
-use Rattle.utf8.proofs.KnownLaws.{First, Second, Third, Fourth, known-first, known1, known-second, known2, known-third, known3, known-fourth, known4}
-use Rattle.utf8.proofs.known.Statement.{statement}
-use Rattle.utf8.proofs.known.Tie as tie
+use Rattle.code_points.proofs.KnownLaws.{First, Second, Third, Fourth, known-first, known1, known-second, known2, known-third, known3, known-fourth, known4}
+use Rattle.code_points.proofs.known.Statement.{statement}
+use Rattle.code_points.proofs.known.Tie as tie
 
 -- what is known of the bytes, by the tests of the first
 first : (g : tie.Start) → First (g .args .s .now) (g .args .at)

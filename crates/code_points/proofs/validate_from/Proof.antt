@@ -1,17 +1,17 @@
--- `utf8::validate_from` meets its contract.
+-- `code_points::validate_from` meets its contract.
 use mathlib.Core.Path.{_≡_, refl, sym, _∙_}
 use mathlib.Core.List.{List}
 use Prim.Native.Nat.{ℕ, _+_, _-_, _≤_}
 use native.Mathlib.Omega.{arith}
 use borrow.Author.Needs.{needs}
 use lib.ListN.{length, drop}
 use Rattle.utf8.specs.declared.Decoded.the-variants.{Char}
 use Rattle.utf8.specs.Utf8.{decode, SameCheck}
 use Rattle.utf8.specs.Passed.{codeOf}
 use Rattle.utf8.proofs.Utf8Laws.{char-fits, check-at, check-bad, check-end}
 use Rattle.utf8.proofs.RareLaws.{passed-bad, passed-char}
-use Rattle.utf8.proofs.validate_from.Statement.{statement}
-use Rattle.utf8.proofs.validate_from.Tie as tie
+use Rattle.code_points.proofs.validate_from.Statement.{statement}
+use Rattle.code_points.proofs.validate_from.Tie as tie
 
 abbrev Inv-loop : tie.InvT-loop
 Inv-loop s from at₀ at = SameCheck s from at

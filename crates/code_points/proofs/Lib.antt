@@ -1,0 +1,3 @@
+-- Laws of code points in a text.
+pub mod KnownLaws
+pub mod Stored
