@@ -53,6 +53,16 @@ pub fn white_space(c: u32) -> bool
     c <= 0x0D
 }
 
+// The same of a code point in a cell: most are blanks.
+fn white_code(c: u32) -> bool
+    ensures { λ r. ⌜ r ≡ white c ⌝ }
+{
+    if c == 0x20 {
+        return true;
+    }
+    white_space(c)
+}
+
 // A part of a slice.
 pub struct Part {
     pub from: usize,
@@ -65,7 +75,7 @@ fn codes_start(s: &[u32]) -> usize
 {
     let mut i = 0;
     while i < s.len() {
-        if white_space(s[i]) {
+        if white_code(s[i]) {
             i += 1;
         } else {
             return i;
@@ -81,7 +91,7 @@ fn codes_end(s: &[u32], from: usize) -> usize
 {
     let mut to = s.len();
     while from < to {
-        if white_space(s[to - 1]) {
+        if white_code(s[to - 1]) {
             to -= 1;
         } else {
             return to;
