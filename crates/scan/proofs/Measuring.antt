@@ -5,8 +5,9 @@ use mathlib.Core.List.{List}
 use Prim.Native.Nat.{ℕ, _+_, _≤_, _<_, max}
 use native.Mathlib.Omega.{arith}
 use lib.ListN.{length, drop}
-use Rattle.model.specs.Box.{┘}
-use Rattle.unicode.specs.Lines.{codesAt, LineAt, ValidTo}
+use borrow.Author.Tests.{eq-eqb, ne-eqb}
+use Rattle.model.specs.Box.{┌, ┘}
+use Rattle.unicode.specs.Lines.{lineText, LineAt, HeadAt, ValidTo}
 use Rattle.utf8.specs.Utf8.{codes}
 use Rattle.scan.specs.Canvas.{rowsAt}
 use Rattle.scan.specs.Found.{textsAt, restAt, StartAt, Measured}
@@ -25,12 +26,16 @@ pub seeking-start : (s : List ℕ) (from : ℕ) → from ≤ length s → Seekin
 seeking-start s from h = record { inside = h; same = refl; rest = refl }
 
 module _ {s : List ℕ} {from at : ℕ} (i : Seeking s from at) where
-  module _ {start count last next : ℕ} (l : LineAt s at start count last next) where
-    pub seeking-more : begins (codesAt s start count) ≡ false → Seeking s from next
-    seeking-more e = record { inside = l .inside; same = i .same ∙ collect-next l e; rest = i .rest ∙ rest-next l e }
+  module _ {first next : ℕ} (l : HeadAt s at first next) where
+    pub seeking-more : (first ≡ ┌ → ⊥) → Seeking s from next
+    seeking-more f =
+        let e : begins (lineText s at) ≡ false = ne-eqb _ ┌ (λ q. f (l .heading ∙ q)) in
+        record { inside = l .inside; same = i .same ∙ collect-next l e; rest = i .rest ∙ rest-next l e }
 
-    pub seeking-found : begins (codesAt s start count) ≡ true → StartAt s from at
-    seeking-found e = record { inside = i .inside; same = i .same ∙ collect-found l e; rest = i .rest ∙ rest-found l e }
+    pub seeking-found : first ≡ ┌ → StartAt s from at
+    seeking-found f =
+        let e : begins (lineText s at) ≡ true = eq-eqb _ ┌ (sym (l .heading) ∙ f) in
+        record { inside = i .inside; same = i .same ∙ collect-found l e; rest = i .rest ∙ rest-found s at e }
 
   pub seeking-end : length s ≤ at → StartAt s from at
   seeking-end h = record { inside = i .inside; same = i .same ∙ collect-end s at h; rest = i .rest ∙ rest-none s at h }

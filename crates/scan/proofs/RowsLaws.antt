@@ -2,31 +2,18 @@
 use mathlib.Core.Path.{_≡_, refl, sym, ap, _∙_}
 use mathlib.Core.Bool.{true, false}
 use mathlib.Core.List.{List, [], _∷_}
-use Prim.Native.Nat.{ℕ, zero, suc, _≤_, _<_}
+use Prim.Native.Nat.{ℕ, _≤_, _<_}
 use native.Mathlib.Omega.{arith}
-use lib.Dec.{eqb}
-use lib.ListN.{length, take, drop}
-use lib.Seq.{take-nil}
+use lib.ListN.{length, drop}
 use borrow.Author.Tests.{eq-eqb, ne-eqb}
 use Rattle.lists.proofs.Tests.{true-false}
-use Rattle.model.specs.Box.{┌, ┘}
-use Rattle.unicode.specs.Lines.{lines, texts, kept, lastOf, codesAt, LineAt}
+use Rattle.model.specs.Box.{┘}
+use Rattle.unicode.specs.Lines.{lines, texts, kept, lastOf, lineText, codesAt, LineAt, HeadAt}
 use Rattle.utf8.specs.Utf8.{codes}
 use Rattle.unicode.proofs.LineLaws.{texts-split}
 use Rattle.utf8.proofs.Utf8Laws.{codes-end}
 use Rattle.scan.specs.Found.{textsAt}
 use Rattle.scan.specs.Rows.{begins, upTo, collect}
-
--- whether some code points begin a sheet
-pub begins-none : (r : List ℕ) (count : ℕ) → count ≡ 0 → false ≡ begins (take count r)
-begins-none r count e = rw e
-
-pub begins-nil : (r : List ℕ) (count : ℕ) → r ≡ [] → false ≡ begins (take count r)
-begins-nil r count e = rw (e, take-nil count)
-
-pub begins-cons : (r : List ℕ) (count c : ℕ) (t : List ℕ) → (count ≡ 0 → ⊥) → r ≡ c ∷ t → eqb c ┌ ≡ begins (take count r)
-begins-cons r zero c t h e = absurd (h refl)
-begins-cons r (suc n) c t h e = rw e
 
 -- one text more in front, by what it is
 collect-off : (t : List ℕ) (ts : List (List ℕ)) → begins t ≡ false → collect (kept t ts) ≡ collect ts
@@ -53,6 +40,17 @@ unfolding upTo
 upTo-more [] ts h e = absurd (omega arith)
 upTo-more (c ∷ t) ts h e = rw (ne-eqb (lastOf (c ∷ t)) ┘ e)
 
+-- the head of a line: the search for the first row passes the line, or finds it
+module _ {s : List ℕ} {at first next : ℕ} (l : HeadAt s at first next) where
+  headed : textsAt s at ≡ kept (lineText s at) (textsAt s next)
+  headed = texts-split (codes (drop at s)) ∙ rw (l .onward)
+
+  pub collect-next : begins (lineText s at) ≡ false → collect (textsAt s at) ≡ collect (textsAt s next)
+  collect-next e = ap collect headed ∙ collect-off (lineText s at) (textsAt s next) e
+
+  pub collect-found : begins (lineText s at) ≡ true → collect (textsAt s at) ≡ upTo (textsAt s at)
+  collect-found e = ap collect headed ∙ collect-on (lineText s at) (textsAt s next) e ∙ ap upTo (sym headed)
+
 -- the line at a place of the bytes, and the rows from there on
 module _ {s : List ℕ} {at from count last next : ℕ} (l : LineAt s at from count last next) where
   split : textsAt s at ≡ kept (codesAt s from count) (textsAt s next)
@@ -63,13 +61,6 @@ module _ {s : List ℕ} {at from count last next : ℕ} (l : LineAt s at from co
 
   line-lasting : last ≡ lastOf (codesAt s from count)
   line-lasting = l .lasting ∙ ap lastOf (sym (l .text))
-
-  -- the search for the first row passes the line, or finds it
-  pub collect-next : begins (codesAt s from count) ≡ false → collect (textsAt s at) ≡ collect (textsAt s next)
-  collect-next e = ap collect split ∙ collect-off (codesAt s from count) (textsAt s next) e
-
-  pub collect-found : begins (codesAt s from count) ≡ true → collect (textsAt s at) ≡ upTo (textsAt s at)
-  collect-found e = ap collect split ∙ collect-on (codesAt s from count) (textsAt s next) e ∙ ap upTo (sym split)
 
   -- the line is blank, the last row, or another
   pub rows-none : count ≤ 0 → upTo (textsAt s at) ≡ upTo (textsAt s next)

@@ -7,7 +7,7 @@ use native.Mathlib.Omega.{arith}
 use lib.ListN.{length, drop}
 use borrow.Author.Tests.{eq-eqb, ne-eqb}
 use Rattle.model.specs.Box.{┘}
-use Rattle.unicode.specs.Lines.{lines, line, after, lastOf, codesAt, lineText, LineAt}
+use Rattle.unicode.specs.Lines.{lines, line, after, lastOf, lineText, LineAt, HeadAt}
 use Rattle.unicode.specs.Trim.{trim}
 use Rattle.utf8.specs.Utf8.{codes}
 use Rattle.unicode.proofs.LineLaws.{lines-cons}
@@ -46,15 +46,15 @@ unfolding lastOf
 last-none [] e = refl
 last-none (c ∷ t) e = absurd (omega arith)
 
+-- the head of a line: the search for the sheet passes the line, or finds it
+pub rest-next : {s : List ℕ} {at first next : ℕ} → HeadAt s at first next → begins (lineText s at) ≡ false → restOf (codes (drop at s)) ≡ restOf (codes (drop next s))
+rest-next {s} {at} l e = taken-off (codes (drop at s)) e ∙ ap restOf (sym (l .onward))
+
+pub rest-found : (s : List ℕ) (at : ℕ) → begins (lineText s at) ≡ true → restOf (codes (drop at s)) ≡ restAt s at
+rest-found s at e = taken-on (codes (drop at s)) e
+
 -- the line at a place of the bytes, and the text behind the sheet from there on
 module _ {s : List ℕ} {at from count last next : ℕ} (l : LineAt s at from count last next) where
-  -- the search for the sheet passes the line, or finds it
-  pub rest-next : begins (codesAt s from count) ≡ false → restOf (codes (drop at s)) ≡ restOf (codes (drop next s))
-  rest-next e = taken-off (codes (drop at s)) (rw (l .text) at e) ∙ ap restOf (sym (l .onward))
-
-  pub rest-found : begins (codesAt s from count) ≡ true → restOf (codes (drop at s)) ≡ restAt s at
-  rest-found e = taken-on (codes (drop at s)) (rw (l .text) at e)
-
   -- the line is in the sheet, or ends it
   pub rest-more : (last ≡ ┘ → ⊥) → restAt s at ≡ restAt s next
   rest-more n = through-more (codes (drop at s)) (ne-eqb _ ┘ (λ q. n (l .lasting ∙ q))) ∙ ap sheetRest (sym (l .onward))

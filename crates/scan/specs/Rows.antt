@@ -6,12 +6,7 @@ use lib.Dec.{eqb}
 use lib.ListN.{length, replicate}
 use Rattle.lists.specs.Choose.{choose}
 use Rattle.model.specs.Box.{┌, ┘, ░}
-use Rattle.unicode.specs.Lines.{lines, texts, lastOf}
-
--- a text's first code point, 0 where it has none
-abbrev pub firstOf : List ℕ → ℕ
-firstOf [] = 0
-firstOf (c ∷ s) = c
+use Rattle.unicode.specs.Lines.{lines, texts, firstOf, lastOf}
 
 abbrev pub begins : List ℕ → Bool
 begins t = eqb (firstOf t) ┌

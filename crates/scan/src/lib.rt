@@ -15,21 +15,6 @@ ghost use Rattle.scan.specs.Rows.{begins, widest, fill, blank, flat};
 ghost use Rattle.scan.specs.Canvas.{sizeOf, textIn, blanksIn, rowsAt, scannedIn, Ended, ValidIn};
 ghost use Rattle.scan.specs.Found.{StartAt, Measured, rowsIn, Counted, Kept};
 
-// Whether the text of `count` code points at a place begins with ┌.
-fn begins_sheet(s: &[u8], from: usize, count: usize) -> bool
-    ensures { λ r. ⌜ r ≡ begins (codesAt (now (s .entry)) from count) ⌝ }
-{
-    if count == 0 {
-        return false;
-    }
-    let d = utf8::next(s, from);
-    match d {
-        Decoded::Char(c, _) => c == box_drawing::LIGHT_DOWN_AND_RIGHT,
-        Decoded::IllFormed => false,
-        Decoded::End => false,
-    }
-}
-
 // Where a sheet starts, and up to where the bytes before it are valid.
 struct SheetStart {
     at: usize,
@@ -45,12 +30,11 @@ fn sheet_start(s: &[u8], from: usize) -> SheetStart
     let mut at = from;
     let mut valid = from;
     while at < s.len() {
-        let l = unicode::line_at(s, at);
-        let next = l.next;
-        if begins_sheet(s, l.from, l.count) {
+        let l = unicode::line_head(s, at);
+        if l.first == box_drawing::LIGHT_DOWN_AND_RIGHT {
             return SheetStart { at, valid };
         }
-        at = next;
+        at = l.next;
         valid = l.valid;
     }
     SheetStart { at, valid }

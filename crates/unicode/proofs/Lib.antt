@@ -4,5 +4,6 @@ pub mod TrimLaws
 pub mod PartLaws
 pub mod LineLaws
 pub mod SeenLaws
+pub mod PlainLaws
 pub mod TrimUtf8Laws
 pub mod TrimLength

@@ -12,14 +12,14 @@ use borrow.Author.Tests.{eq-eqb, ne-eqb}
 use Rattle.unicode.specs.White.{white}
 use Rattle.lists.specs.Choose.{choose}
 use Rattle.unicode.specs.Trim.{trimStart, trimEnd, before, trim}
-use Rattle.unicode.specs.Lines.{join, lines, lastOf, texts, kept, line, after, lineText, LineAt, ValidTo}
-use Rattle.unicode.specs.LineScan.{lead, RestAt}
+use Rattle.unicode.specs.Lines.{join, lines, firstOf, lastOf, texts, kept, line, after, lineText, LineAt, HeadAt, ValidTo}
+use Rattle.unicode.specs.LineScan.{lead, NextFrom, RestAt}
 use Rattle.unicode.specs.declared.Rest.{Rest}
 use Rattle.utf8.specs.Utf8.{codes, decode, SameCheck}
 use Rattle.utf8.specs.Passed.{codeOf}
 use Rattle.utf8.specs.declared.Decoded.the-variants.{Char}
 use Rattle.utf8.proofs.Utf8Laws.{decode-end, codes-at, char-fits, check-at, codes-end}
-use Rattle.unicode.proofs.TrimLaws.{end-snoc}
+use Rattle.unicode.proofs.TrimLaws.{end-snoc, first-end}
 
 -- the first line and the others
 pub lines-cons : (c : ℕ) (s : List ℕ) → lines (c ∷ s) ≡ line (c ∷ s) ∷ lines (after (c ∷ s))
@@ -189,14 +189,66 @@ module _ (r : List ℕ) (e : r ≡ []) where
   unfolding lasts
   lasts-nil d = rw e
 
--- the scan of a line's rest has come to p, over k code points
-pub record Scanned (s : List ℕ) (from p k count last : ℕ) : Type 0 where
-  pub along : from + k ≤ p
+-- the reading of a line has come to p
+pub record Passing (s : List ℕ) (from p : ℕ) : Type 0 where
+  pub along : from ≤ p
   pub inside : p ≤ length s
-  pub counted : ends 0 0 (codes (drop from s)) ≡ ends k count (codes (drop p s))
-  pub lasting : lasts 0 (codes (drop from s)) ≡ lasts last (codes (drop p s))
   pub onward : after (codes (drop from s)) ≡ after (codes (drop p s))
   pub checks : SameCheck s from p
+
+pub pass-start : (s : List ℕ) (from : ℕ) → from ≤ length s → Passing s from from
+pass-start s from h = record { along = omega arith; inside = h; onward = refl; checks = refl }
+
+-- where the reading of a line ends
+abbrev pub Passed : List ℕ → ℕ → ℕ → ℕ → Type 0
+Passed s from next valid = NextFrom s from next × ValidTo s from next valid
+
+module _ {s : List ℕ} {from p : ℕ} (i : Passing s from p) where
+  module _ {c n : ℕ} (e : decode (drop p s) ≡ Char c n) where
+    here : codes (drop p s) ≡ c ∷ codes (drop (p + n) s)
+    here = codes-at s p c n e (i .inside)
+
+    behind : SameCheck s from (p + n)
+    behind = i .checks ∙ check-at s p c n e (i .inside)
+
+    pub pass-fits : (1 ≤ n) × (p + n ≤ length s)
+    pass-fits = char-fits s p c n e (i .inside)
+
+    pub pass-more : (c ≡ 0x0A → ⊥) → Passing s from (p + n)
+    pass-more f = let l = pass-fits in record { along = omega (arith, i .along); inside = omega arith; onward = i .onward ∙ after-more _ _ _ here f; checks = behind }
+
+    -- a line feed
+    pub pass-feed : c ≡ 0x0A → Passed s from (p + n) (p + n)
+    pass-feed f =
+        let l = pass-fits in (
+          record { onward = sym (i .onward ∙ after-feed _ _ _ here f); inside = omega arith; along = omega (arith, i .along); further = λ h. omega (arith, i .along) },
+          record { same = behind; level = λ h. refl },
+        )
+
+  -- nothing more
+  next-none : codes (drop p s) ≡ [] → NextFrom s from (length s)
+  next-none e =
+      record {
+        onward = codes-end s (length s) (omega arith) ∙ sym (i .onward ∙ after-nil _ e);
+        inside = omega arith;
+        along = omega (arith, i .along, i .inside);
+        further = λ h. h;
+      }
+
+  pub pass-stop : codes (drop p s) ≡ [] → Passed s from (length s) p
+  pass-stop e = (next-none e, record { same = i .checks; level = λ h. absurd (omega arith) })
+
+  pub pass-end : length s ≤ p → Passed s from p p
+  pass-end h =
+      let e : length s ≡ p = omega (arith, i .inside) in
+      (subst (NextFrom s from) e (next-none (codes-end s p h)), record { same = i .checks; level = λ g. refl })
+
+-- the scan of a line's rest has come to p, over k code points
+pub record Scanned (s : List ℕ) (from p k count last : ℕ) : Type 0 where
+  pub passing : Passing s from p
+  pub many : from + k ≤ p
+  pub counted : ends 0 0 (codes (drop from s)) ≡ ends k count (codes (drop p s))
+  pub lasting : lasts 0 (codes (drop from s)) ≡ lasts last (codes (drop p s))
 
 -- what the scan of a line's rest answers
 abbrev pub Found : List ℕ → ℕ → ℕ → ℕ → ℕ → ℕ → Type 0
@@ -210,71 +262,44 @@ found-in r e f = rw e f
 pub scan-start : (s : List ℕ) (from : ℕ) → from ≤ length s → Scanned s from from 0 0 (codeOf (decode (drop (length s) s)))
 scan-start s from h =
     let e : 0 ≡ codeOf (decode (drop (length s) s)) = sym (ap codeOf (decode-end s (length s) (omega arith))) in
-    record { along = omega arith; inside = h; counted = refl; lasting = ap (λ (d : ℕ). lasts d (codes (drop from s))) e; onward = refl; checks = refl }
+    record { passing = pass-start s from h; many = omega arith; counted = refl; lasting = ap (λ (d : ℕ). lasts d (codes (drop from s))) e }
 
 module _ {s : List ℕ} {from p k count last : ℕ} (i : Scanned s from p k count last) where
-  module _ {c n : ℕ} (e : decode (drop p s) ≡ Char c n) where
-    here : codes (drop p s) ≡ c ∷ codes (drop (p + n) s)
-    here = codes-at s p c n e (i .inside)
+  -- the line ends where nothing of its text is left
+  ended : {next valid : ℕ} → ends k count (codes (drop p s)) ≡ count → lasts last (codes (drop p s)) ≡ last → Passed s from next valid → Found s from count last next valid
+  ended c l f = (record { counted = sym (i .counted ∙ c) ∙ ends-line _; lasting = sym (i .lasting ∙ l) ∙ lasts-line _; ends = f .0 }, f .1)
 
-    behind : SameCheck s from (p + n)
-    behind = i .checks ∙ check-at s p c n e (i .inside)
+  module _ {c n : ℕ} (e : decode (drop p s) ≡ Char c n) where
+    there : codes (drop p s) ≡ c ∷ codes (drop (p + n) s)
+    there = here (i .passing) e
 
     pub scan-fits : (1 ≤ n) × (p + n ≤ length s)
-    scan-fits = char-fits s p c n e (i .inside)
+    scan-fits = pass-fits (i .passing) e
 
     pub scan-white : (c ≡ 0x0A → ⊥) → white c ≡ true → Scanned s from (p + n) (k + 1) count last
     scan-white f w = let l = scan-fits in record {
-      along = omega arith;
-      inside = omega arith;
-      counted = i .counted ∙ ends-white _ _ _ here _ _ f w;
-      lasting = i .lasting ∙ lasts-white _ _ _ here _ f w;
-      onward = i .onward ∙ after-more _ _ _ here f;
-      checks = behind;
+      passing = pass-more (i .passing) e f;
+      many = omega (arith, i .many);
+      counted = i .counted ∙ ends-white _ _ _ there _ _ f w;
+      lasting = i .lasting ∙ lasts-white _ _ _ there _ f w;
     }
 
     pub scan-dark : (c ≡ 0x0A → ⊥) → white c ≡ false → Scanned s from (p + n) (k + 1) (k + 1) c
     scan-dark f w = let l = scan-fits in record {
-      along = omega arith;
-      inside = omega arith;
-      counted = i .counted ∙ ends-dark _ _ _ here _ _ f w;
-      lasting = i .lasting ∙ lasts-dark _ _ _ here _ f w;
-      onward = i .onward ∙ after-more _ _ _ here f;
-      checks = behind;
+      passing = pass-more (i .passing) e f;
+      many = omega (arith, i .many);
+      counted = i .counted ∙ ends-dark _ _ _ there _ _ f w;
+      lasting = i .lasting ∙ lasts-dark _ _ _ there _ f w;
     }
 
-    -- a line feed
     pub scan-feed : c ≡ 0x0A → Found s from count last (p + n) (p + n)
-    scan-feed f = let l = scan-fits in (
-      record {
-        counted = sym (i .counted ∙ ends-feed _ _ _ here _ _ f) ∙ ends-line _;
-        lasting = sym (i .lasting ∙ lasts-feed _ _ _ here _ f) ∙ lasts-line _;
-        onward = sym (i .onward ∙ after-feed _ _ _ here f);
-        inside = omega arith;
-        along = omega arith;
-        further = λ h. omega arith;
-      },
-      record { same = behind; level = λ h. refl },
-    )
-
-  -- nothing more
-  rest-stop : codes (drop p s) ≡ [] → RestAt s from count last (length s)
-  rest-stop e = record {
-    counted = sym (i .counted ∙ ends-nil _ e _ _) ∙ ends-line _;
-    lasting = sym (i .lasting ∙ lasts-nil _ e _) ∙ lasts-line _;
-    onward = codes-end s (length s) (omega arith) ∙ sym (i .onward ∙ after-nil _ e);
-    inside = omega arith;
-    along = omega arith;
-    further = λ h. h;
-  }
+    scan-feed f = ended (ends-feed _ _ _ there _ _ f) (lasts-feed _ _ _ there _ f) (pass-feed (i .passing) e f)
 
   pub scan-stop : codes (drop p s) ≡ [] → Found s from count last (length s) p
-  scan-stop e = (rest-stop e, record { same = i .checks; level = λ h. absurd (omega arith) })
+  scan-stop e = ended (ends-nil _ e _ _) (lasts-nil _ e _) (pass-stop (i .passing) e)
 
   pub scan-end : length s ≤ p → Found s from count last p p
-  scan-end h =
-      let e : length s ≡ p = omega (arith, i .inside) in
-      (subst (λ (m : ℕ). RestAt s from count last m) e (rest-stop (codes-end s p h)), record { same = i .checks; level = λ g. refl })
+  scan-end h = let e = codes-end s p h in ended (ends-nil _ e _ _) (lasts-nil _ e _) (pass-end (i .passing) h)
 
 -- the scan of the white space in front of a line has come to p
 pub record Skipped (s : List ℕ) (at p : ℕ) : Type 0 where
@@ -308,23 +333,42 @@ pub texts-split : (r : List ℕ) → texts (lines r) ≡ kept (trim (line r)) (t
 texts-split [] = unfold texts lines line after trim trimStart trimEnd in refl
 texts-split (c ∷ s) = unfold texts in ap texts (lines-cons c s)
 
+-- the next line, from where the white space in front starts
+module _ {s : List ℕ} {at from next : ℕ} (a : at ≤ from) (f : from ≤ length s) (e : codes (drop from s) ≡ lead (codes (drop at s))) (n : NextFrom s from next) where
+  next-onward : codes (drop next s) ≡ after (codes (drop at s))
+  next-onward = n .onward ∙ ap after e ∙ after-lead (codes (drop at s))
+
+  next-further : at < length s → at < next
+  next-further h = go (eq-or-lt-of-le f)
+    where
+      go : (from ≡ length s) ⊎ (from < length s) → at < next
+      go (inl q) = let z = n .along in omega arith
+      go (inr q) = let z = n .further q in omega arith
+
+  line-trimmed : line (codes (drop from s)) ≡ trimStart (line (codes (drop at s)))
+  line-trimmed = ap line e ∙ line-lead (codes (drop at s))
+
+  pub head-of : {first : ℕ} → first ≡ firstOf (line (codes (drop from s))) → HeadAt s at first next
+  unfolding trim
+  head-of h = record {
+    heading = h ∙ ap firstOf line-trimmed ∙ sym (first-end (line (codes (drop at s))));
+    onward = next-onward;
+    inside = n .inside;
+    further = next-further;
+  }
+
 pub line-of : {s : List ℕ} {at from count last next : ℕ} → at ≤ from → from ≤ length s → codes (drop from s) ≡ lead (codes (drop at s)) → RestAt s from count last next → LineAt s at from count last next
 unfolding trim
 line-of {s} {at} {from} {count} {last} {next} a f e r =
-    let t : line (codes (drop from s)) ≡ trimStart (line (codes (drop at s))) = ap line e ∙ line-lead (codes (drop at s)) in
-    let w : trimEnd (line (codes (drop from s))) ≡ lineText s at = ap trimEnd t in
+    let w : trimEnd (line (codes (drop from s))) ≡ lineText s at = ap trimEnd (line-trimmed a f e (r .ends)) in
     record {
       text = ap (λ (n : ℕ). take n (codes (drop from s))) (r .counted) ∙ take-line (codes (drop from s)) ∙ w;
       counted = r .counted ∙ ap length w;
       lasting = r .lasting ∙ ap lastOf w;
-      onward = r .onward ∙ ap after e ∙ after-lead (codes (drop at s));
-      inside = r .inside;
-      further = λ h. go h (eq-or-lt-of-le f);
+      onward = next-onward a f e (r .ends);
+      inside = r .ends .inside;
+      further = next-further a f e (r .ends);
     }
-  where
-    go : at < length s → (from ≡ length s) ⊎ (from < length s) → at < next
-    go h (inl q) = let z = r .along in omega arith
-    go h (inr q) = let z = r .further q in omega arith
 
 -- the check passes over the white space in front too
 pub valid-of : {s : List ℕ} {at from next valid : ℕ} → SameCheck s at from → ValidTo s from next valid → ValidTo s at next valid

@@ -1,4 +1,4 @@
--- Laws of what a line takes a sequence for.
+-- Laws of what a line takes a sequence for, and of what its text begins with.
 use mathlib.Core.Path.{_≡_, refl, sym, ap, subst, _∙_}
 use mathlib.Core.Logic.{_⊎_, inl, inr}
 use mathlib.Core.Bool.{Bool, true, false}
@@ -14,10 +14,11 @@ use Rattle.utf8.specs.Utf8.{more, tail, decode, codes}
 use Rattle.utf8.specs.Passed.{codeOf, bytesOf}
 use Rattle.utf8.specs.declared.Decoded.{Decoded}
 use Rattle.utf8.specs.declared.Decoded.the-variants.{Char, IllFormed, End}
-use Rattle.utf8.proofs.Utf8Laws.{decode-at, row1, row4, more-in, codes-bad, codes-none, encode1}
+use Rattle.utf8.proofs.Utf8Laws.{decode-at, row1, row4, more-in, codes-char, codes-bad, codes-none, encode1}
 use Rattle.utf8.proofs.Inverse.{decode-size}
 use Rattle.unicode.specs.White.{among, white}
-use Rattle.unicode.specs.LineScan.{seenOf, WordAt}
+use Rattle.unicode.specs.Lines.{firstOf, line}
+use Rattle.unicode.specs.LineScan.{seenOf, WordAt, headOf}
 use Rattle.unicode.specs.declared.Seen.{Seen}
 use Rattle.unicode.specs.declared.Seen.the-variants.{Text, White, LineFeed, Nothing}
 use Rattle.unicode.proofs.WhiteLaws.{dark}
@@ -107,3 +108,17 @@ feed-byte s e = e ∙ ap (Char 0x0A) (decode-size s 0x0A (bytesOf (decode s)) e 
 pub none-left : (s : List ℕ) → Told (decode s) Nothing → codes s ≡ []
 none-left s (inl e) = codes-bad s e
 none-left s (inr e) = codes-none s e
+
+-- what a line's text begins with
+pub head-first : (s : List ℕ) → headOf (decode s) ≡ firstOf (line (codes s))
+unfolding line
+head-first s = go (decode s) refl
+  where
+    pick : (t : Bool) (c : ℕ) (l : List ℕ) → choose t 0 c ≡ firstOf (choose t [] (c ∷ l))
+    pick true c l = refl
+    pick false c l = refl
+
+    go : (d : Decoded) → decode s ≡ d → headOf d ≡ firstOf (line (codes s))
+    go (Char c n) e = pick (eqb c 0x0A) c (line (codes (drop n s))) ∙ sym (ap (λ (r : List ℕ). firstOf (line r)) (codes-char s c n e))
+    go IllFormed e = sym (ap (λ (r : List ℕ). firstOf (line r)) (codes-bad s e))
+    go End e = sym (ap (λ (r : List ℕ). firstOf (line r)) (codes-none s e))

@@ -8,6 +8,7 @@ use lib.ListN.{length, getD, take, drop, drop-of-length-le, length-drop}
 use lib.Seq.{take-suc, getD-drop}
 use Rattle.unicode.specs.White.{white}
 use Rattle.unicode.specs.Trim.{trimStart, trimEnd, before}
+use Rattle.unicode.specs.Lines.{firstOf}
 use Rattle.lists.specs.Choose.{choose}
 use Rattle.lists.proofs.Parts.{at-cons}
 
@@ -37,6 +38,21 @@ end-snoc (x ∷ xs) c = ap (before x) (end-snoc xs c) ∙ go (white c)
     go : (t : Bool) → before x (choose t (trimEnd xs) (xs ++ (c ∷ []))) ≡ choose t (before x (trimEnd xs)) (x ∷ (xs ++ (c ∷ [])))
     go true = refl
     go false = before-snoc x xs c
+
+-- what a text begins with stays when its end is trimmed too
+first-before : (c : ℕ) (t : List ℕ) → white c ≡ false → firstOf (before c t) ≡ c
+first-before c [] w = rw w
+first-before c (x ∷ t) w = refl
+
+pub first-end : (t : List ℕ) → firstOf (trimEnd (trimStart t)) ≡ firstOf (trimStart t)
+unfolding trimStart trimEnd
+first-end [] = refl
+first-end (c ∷ t) = go (white c) refl (first-end t)
+  where
+    go : (w : Bool) → white c ≡ w → firstOf (trimEnd (trimStart t)) ≡ firstOf (trimStart t)
+        → firstOf (trimEnd (choose w (trimStart t) (c ∷ t))) ≡ firstOf (choose w (trimStart t) (c ∷ t))
+    go true e h = h
+    go false e h = first-before c (trimEnd t) e
 
 module _ (s : List ℕ) (from to : ℕ) (h : from < to) (k : to ≤ length s) where
   -- the part up to `to` is the part up to the last code point, and that

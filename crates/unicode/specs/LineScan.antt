@@ -36,11 +36,25 @@ pub record Led (s : List ℕ) (p : ℕ) : Type 0 where
   pub same : trimStart (codes s) ≡ codes (drop p s)
   pub checks : SameCheck s 0 p
 
--- the rest of a line: its length without the white space at the end, its last code point, and where the next line starts
-pub record RestAt (s : List ℕ) (from count last next : ℕ) : Type 0 where
-  pub counted : count ≡ length (trimEnd (line (codes (drop from s))))
-  pub lasting : last ≡ lastOf (trimEnd (line (codes (drop from s))))
+-- the bytes from one place up to another are ASCII from 0x20 on
+pub record Plain (s : List ℕ) (at to : ℕ) : Type 0 where
+  pub bytes : (p : ℕ) → at ≤ p → p < to → (0x20 ≤ getD s p 0) × (getD s p 0 ≤ 0x7F)
+
+-- the code point that a line's text begins with at a sequence, 0 where it has none
+abbrev pub headOf : Decoded → ℕ
+headOf (Char c n) = choose (eqb c 0x0A) 0 c
+headOf IllFormed = 0
+headOf End = 0
+
+-- the line that is read from `from` on ends, and the next starts at `next`
+pub record NextFrom (s : List ℕ) (from next : ℕ) : Type 0 where
   pub onward : codes (drop next s) ≡ after (codes (drop from s))
   pub inside : next ≤ length s
   pub along : from ≤ next
   pub further : from < length s → from < next
+
+-- the rest of a line: its length without the white space at the end, its last code point, and where the next line starts
+pub record RestAt (s : List ℕ) (from count last next : ℕ) : Type 0 where
+  pub counted : count ≡ length (trimEnd (line (codes (drop from s))))
+  pub lasting : last ≡ lastOf (trimEnd (line (codes (drop from s))))
+  pub ends : NextFrom s from next

@@ -37,7 +37,12 @@ unfoldable pub after : List ℕ → List ℕ
 after [] = []
 after (c ∷ s) = choose (eqb c 0x0A) s (after s)
 
--- a text's last code point, 0 where it has none
+-- a text's first code point, 0 where it has none
+abbrev pub firstOf : List ℕ → ℕ
+firstOf [] = 0
+firstOf (c ∷ s) = c
+
+-- its last code point
 unfoldable pub lastOf : List ℕ → ℕ
 lastOf [] = 0
 lastOf (c ∷ []) = c
@@ -56,6 +61,13 @@ pub record LineAt (s : List ℕ) (at from count last next : ℕ) : Type 0 where
   pub text : codesAt s from count ≡ lineText s at
   pub counted : count ≡ length (lineText s at)
   pub lasting : last ≡ lastOf (lineText s at)
+  pub onward : codes (drop next s) ≡ after (codes (drop at s))
+  pub inside : next ≤ length s
+  pub further : at < length s → at < next
+
+-- what reading the head of the line at `at` finds: its trimmed text begins with `first`, and the next line starts at `next`
+pub record HeadAt (s : List ℕ) (at first next : ℕ) : Type 0 where
+  pub heading : first ≡ firstOf (lineText s at)
   pub onward : codes (drop next s) ≡ after (codes (drop at s))
   pub inside : next ≤ length s
   pub further : at < length s → at < next

@@ -1,5 +1,4 @@
 -- `scan::sheet_start` meets its contract.
-use mathlib.Core.Path.{sym, _∙_}
 use Prim.Native.Nat.{_-_}
 use native.Mathlib.Omega.{arith}
 use lib.ListN.{length}
@@ -18,29 +17,26 @@ abbrev μ-loop : tie.MeasureT-loop
 loop-holds : tie.Need-loop-holds Inv-loop μ-loop
 loop-holds c = (seeking-start _ _ (c .before .pre), valid-start _ _)
 
-line-at-requires : tie.Need-line-at-requires Inv-loop μ-loop
-line-at-requires c κs = search needs
-
-begins-sheet-requires : tie.Need-begins-sheet-requires Inv-loop μ-loop
-begins-sheet-requires c κs = search needs
+line-head-requires : tie.Need-line-head-requires Inv-loop μ-loop
+line-head-requires c κs = search needs
 
 returns : tie.Need-returns Inv-loop μ-loop
 returns c =
     let line = c .before .before in
     let i = line .before .before .loop .inv in
-    (seeking-found (i .0) (line .line-at .ensures .0) (sym (c .before .begins-sheet .ensures) ∙ c .if1 .taken), i .1)
+    (seeking-found (i .0) (line .line-head .ensures .0) (c .if1 .taken), i .1)
 
 loop-less : tie.Need-loop-less Inv-loop μ-loop
 loop-less c =
     let line = c .before .before in
-    omega (arith, line .line-at .ensures .0 .further (line .before .loop-test .taken))
+    omega (arith, line .line-head .ensures .0 .further (line .before .loop-test .taken))
 
 loop-again : tie.Need-loop-again Inv-loop μ-loop
 loop-again c =
     let line = c .before .before in
     let i = line .before .before .loop .inv in
-    let l = line .line-at .ensures in
-    (seeking-more (i .0) (l .0) (sym (c .before .begins-sheet .ensures) ∙ c .if1 .left), valid-more (i .1) (line .before .loop-test .taken) (l .1))
+    let l = line .line-head .ensures in
+    (seeking-more (i .0) (l .0) (c .if1 .left), valid-more (i .1) (line .before .loop-test .taken) (l .1))
 
 returns-2 : tie.Need-returns-2 Inv-loop μ-loop
 returns-2 c = let i = c .before .loop .inv in (seeking-end (i .0) (c .loop-test .left), i .1)
@@ -52,8 +48,7 @@ sheet-start-spec =
     Inv-loop
     μ-loop
     loop-holds
-    line-at-requires
-    begins-sheet-requires
+    line-head-requires
     returns
     loop-less
     loop-again
