@@ -30,7 +30,7 @@ fn sheet_start(s: &[u8], from: usize) -> SheetStart
     let mut at = from;
     let mut valid = from;
     while at < s.len() {
-        let l = unicode::line_head(s, at);
+        let l = text_lines::line_head(s, at);
         if l.first == box_drawing::LIGHT_DOWN_AND_RIGHT {
             return SheetStart { at, valid };
         }
@@ -81,7 +81,7 @@ fn measure(s: &[u8], at: usize, valid: usize, lines: &mut [usize]) -> Extent
     let mut rows: usize = 0;
     let mut columns: usize = 0;
     while p < s.len() {
-        let l = unicode::line_at(s, p);
+        let l = text_lines::line_at(s, p);
         let count = l.count;
         let last = l.last;
         p = l.next;

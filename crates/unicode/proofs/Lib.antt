@@ -3,7 +3,5 @@ pub mod WhiteLaws
 pub mod TrimLaws
 pub mod PartLaws
 pub mod LineLaws
-pub mod SeenLaws
-pub mod PlainLaws
 pub mod TrimUtf8Laws
 pub mod TrimLength

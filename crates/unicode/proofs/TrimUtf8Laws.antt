@@ -10,7 +10,7 @@ use Rattle.lists.proofs.Parts.{part-add, part-end}
 use Rattle.unicode.specs.White.{white}
 use Rattle.utf8.specs.Utf8.{decode, check, checked, codes, encode, encodes}
 use Rattle.unicode.specs.Trim.{trimStart, trimEnd, trim, trimStartUtf8, trimUtf8, PartIn}
-use Rattle.unicode.specs.LineScan.{Led}
+use Rattle.unicode.specs.Leading.{Led}
 use Rattle.utf8.specs.declared.Decoded.the-variants.{Char, IllFormed, End}
 use Rattle.utf8.specs.declared.Checked.the-variants.{Valid, Invalid}
 use Rattle.utf8.proofs.Utf8Laws.{char-fits, check-at, codes-at, codes-end, check-bad, check-end, decode-none}

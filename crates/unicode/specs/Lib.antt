@@ -1,4 +1,4 @@
 pub mod White
 pub mod Trim
 pub mod Lines
-pub mod LineScan
+pub mod Leading

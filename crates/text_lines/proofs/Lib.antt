@@ -1,0 +1,3 @@
+mod LineReading
+mod SeenLaws
+mod PlainLaws
