@@ -1,10 +1,11 @@
 // The lines of a text in UTF-8, read by their bytes: a line of a sheet with its length, and the head of any other.
+use utf8::Checked;
 use utf8::Decoded;
 ghost use mathlib.Core.Bool.{true};
 ghost use mathlib.Core.Path.{_≡_};
 ghost use Prim.Native.Nat.{_+_, _<_, _≤_};
 ghost use lib.ListN.{length, drop};
-ghost use Rattle.utf8.specs.Utf8.{decode, codes, SameCheck};
+ghost use Rattle.utf8.specs.Utf8.{decode, codes, check, SameCheck};
 ghost use Rattle.utf8.specs.Passed.{codeOf};
 ghost use Rattle.unicode.specs.Lines.{LineAt, HeadAt, ValidTo};
 ghost use Rattle.text_lines.specs.LineScan.{lead, RestAt, seenOf, WordAt, Plain, headOf, NextFrom};
@@ -292,6 +293,20 @@ fn line_end(s: &[u8], from: usize) -> LineEnd
         p = skip_some(s, p, n);
     }
     LineEnd { next: p, valid: p }
+}
+
+// The check of the bytes from an index on, line by line.
+pub fn validate_lines(s: &[u8], from: usize) -> Checked
+    ensures { λ r. ⌜ r ≡ check 0 from (drop from (now (s .entry))) ⌝ }
+{
+    let mut at = from;
+    let mut valid = from;
+    while at < s.len() {
+        let e = line_end(s, at);
+        at = e.next;
+        valid = e.valid;
+    }
+    code_points::validate_from(s, valid)
 }
 
 // The code point that a text begins with, 0 where a line feed stands or nothing.

@@ -62,8 +62,8 @@ ended : (c : tie.After-known-told) → Ended (answer c) (bytes c) 0
 ended c = subst (λ (r : Scanned). Ended r (bytes c) 0) (c .before .rows .given .1) (scanned c .scan .ensures .1 .0)
 
 -- the check from there on tells of all bytes
-whole : (c : tie.After-validate-from) → checked (bytes (c .before)) ≡ c .validate-from .result
-whole c = subst (λ (r : Scanned). ValidIn r (bytes (c .before)) 0) (c .before .before .rows .given .1) (scanned (c .before) .scan .ensures .1 .1 .0) ∙ sym (c .validate-from .ensures)
+whole : (c : tie.After-validate-lines) → checked (bytes (c .before)) ≡ c .validate-lines .result
+whole c = subst (λ (r : Scanned). ValidIn r (bytes (c .before)) 0) (c .before .before .rows .given .1) (scanned (c .before) .scan .ensures .1 .1 .0) ∙ sym (c .validate-lines .ensures)
 
 formed : (c : tie.After-recognize-outline) → checked (bytes (canvased c)) ≡ Valid
 formed c = whole (passed c .before .before) ∙ passed c .enum-told .given .1
@@ -77,8 +77,8 @@ scan-requires c κs = search needs
 enum-known-rows : tie.Need-enum-known-rows
 enum-known-rows c = search needs
 
-validate-from-requires : tie.Need-validate-from-requires
-validate-from-requires c κs = search needs
+validate-lines-requires : tie.Need-validate-lines-requires
+validate-lines-requires c κs = search needs
 
 enum-told : tie.Need-enum-told
 enum-told c = search needs
@@ -190,7 +190,7 @@ draw-sheet-spec =
     (tie.spec
     scan-requires
     enum-known-rows
-    validate-from-requires
+    validate-lines-requires
     enum-told
     recognize-outline-requires
     enum-known-o
