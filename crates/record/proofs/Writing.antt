@@ -119,13 +119,6 @@ module _ (d : List ℕ) (t : Table) (counted : length (t .texts) ≡ slotsIn t) 
   length-front : length (put d 0 (words (headWords t))) ≡ length d
   length-front = length-put d 0 (words (headWords t)) (omega (arith, length-words (headWords t)))
 
-  pub length-written : (i : ℕ) → i ≤ slotsIn t → length (writtenTo d t i) ≡ length d
-  unfolding writtenTo
-  length-written i h =
-      let l = length-taken i h in
-      length-with (put d 0 (words (headWords t))) 0 (textOffset (slotsIn t)) (take i (t .texts)) (omega (arith, offset-within i, length-front)) (omega arith)
-      ∙ length-front
-
   -- all texts: the record, and behind it the slice as it was
   pub written-all : (i : ℕ) → i ≡ slotsIn t → writtenTo d t i ≡ encode t ++ drop (total t) d
   unfolding writtenTo withTexts encode
@@ -152,9 +145,6 @@ module _ (d : List ℕ) (t : Table) (counted : length (t .texts) ≡ slotsIn t) 
       record { along = omega arith; here = ex ∙ rw (en, ew) (headed-whole d t room); offset = omega arith }
 
   module _ {x : List ℕ} {i o : ℕ} (s : Standing d t x i o) where
-    pub standing-length : length x ≡ length d
-    standing-length = ap length (s .here) ∙ length-written i (s .along)
-
     -- the next texts
     module _ (ts : List Text) (next : take (length ts) (drop i (t .texts)) ≡ ts) where
       next-few : i + length ts ≤ slotsIn t
