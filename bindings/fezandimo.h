@@ -25,8 +25,7 @@ enum {
     FEZANDIMO_SPANS = 2048,    /* uint32_t: spans, where the regions' texts stand */
     FEZANDIMO_PLANE = 4160,    /* uint32_t: plane and upright, rows of cells */
     FEZANDIMO_SLOTS = 12480,   /* uint32_t: slots, where the record's texts stand */
-    FEZANDIMO_BYTES = 61444,   /* uint8_t: bytes, the regions' texts */
-    FEZANDIMO_SCRATCH = 61440  /* uint8_t: scratch, the allowed values of one output */
+    FEZANDIMO_BYTES = 61444    /* uint8_t: bytes, the regions' texts */
 };
 
 /* The refusals: N of an answer, with what A and B tell; where nothing is said they are 0. */
@@ -77,7 +76,6 @@ struct fezandimo_answer fezandimo_read_sheet(
     uint32_t *spans, size_t span_count,       /* work slice 5: FEZANDIMO_SPANS */
     uint32_t *plane, size_t plane_count,      /* work slice 6: FEZANDIMO_PLANE */
     uint8_t *bytes, size_t byte_count,        /* work slice 7: FEZANDIMO_BYTES */
-    uint8_t *scratch, size_t scratch_count,   /* work slice 8: FEZANDIMO_SCRATCH */
     uint8_t *out, size_t out_count);          /* the record */
 
 /* The table from a lent plane, which has no name. */
@@ -92,7 +90,6 @@ struct fezandimo_answer fezandimo_read_lent_plane(
     uint32_t *spans, size_t span_count,           /* work slice 1: FEZANDIMO_SPANS */
     uint32_t *upright, size_t upright_count,      /* work slice 2: FEZANDIMO_PLANE */
     uint32_t *slots, size_t slot_count,           /* work slice 3: FEZANDIMO_SLOTS */
-    uint8_t *scratch, size_t scratch_count,       /* work slice 4: FEZANDIMO_SCRATCH */
     uint8_t *out, size_t out_count);              /* the record */
 
 /* n = 0: the values of a text; else the refusal n, 1 or 27, with its A and B. */

@@ -87,12 +87,9 @@ impl<'a> Port<'a> {
         match self.input {
             Input::Sheet(_) => {
                 self.works.numbers::<7>().into_iter().for_each(zero);
-                self.works.bytes::<2>().into_iter().for_each(zero);
-            }
-            Input::Plane(_) => {
-                self.works.numbers::<4>().into_iter().for_each(zero);
                 self.works.bytes::<1>().into_iter().for_each(zero);
             }
+            Input::Plane(_) => self.works.numbers::<4>().into_iter().for_each(zero),
             Input::Text(_) => {}
         }
     }

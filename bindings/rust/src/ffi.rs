@@ -39,8 +39,6 @@ unsafe extern "C" {
         plane_count: usize,
         bytes: *mut u8,
         byte_count: usize,
-        scratch: *mut u8,
-        scratch_count: usize,
         out: *mut u8,
         out_count: usize,
     ) -> Answer;
@@ -66,8 +64,6 @@ unsafe extern "C" {
         upright_count: usize,
         slots: *mut u32,
         slot_count: usize,
-        scratch: *mut u8,
-        scratch_count: usize,
         out: *mut u8,
         out_count: usize,
     ) -> Answer;

@@ -11,7 +11,6 @@ const SPANS: usize = 2_048;
 const PLANE: usize = 4_160;
 const SLOTS: usize = 12_480;
 const BYTES: usize = 61_444;
-const SCRATCH: usize = 61_440;
 
 /// Why a sheet, a lent plane or a text is refused: its number and what that tells, as in `fezandimo.h`.
 #[derive(Debug, Clone, Copy, PartialEq, Eq)]
@@ -60,7 +59,6 @@ pub struct Reader {
     upright: Vec<u32>,
     slots: Vec<u32>,
     bytes: Vec<u8>,
-    scratch: Vec<u8>,
 }
 
 impl Default for Reader {
@@ -79,7 +77,6 @@ impl Reader {
             upright: vec![0; PLANE],
             slots: vec![0; SLOTS],
             bytes: vec![0; BYTES],
-            scratch: vec![0; SCRATCH],
         }
     }
 
@@ -108,8 +105,6 @@ impl Reader {
                 self.plane.len(),
                 self.bytes.as_mut_ptr(),
                 self.bytes.len(),
-                self.scratch.as_mut_ptr(),
-                self.scratch.len(),
                 out.as_mut_ptr(),
                 out.len(),
             )
@@ -142,8 +137,6 @@ impl Reader {
                 self.upright.len(),
                 self.slots.as_mut_ptr(),
                 self.slots.len(),
-                self.scratch.as_mut_ptr(),
-                self.scratch.len(),
                 out.as_mut_ptr(),
                 out.len(),
             )

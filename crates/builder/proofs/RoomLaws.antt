@@ -1,24 +1,20 @@
 -- The work slices of the whole reader have room.
 use mathlib.Core.List.{List, [], _∷_, map}
-use Prim.Native.Nat.{ℕ, _≤_}
+use Prim.Native.Nat.{ℕ}
 use lib.ListN.{length}
-use Rattle.model.specs.Limits.{textBytes}
 use Rattle.room.specs.Room.{Roomy}
 use Rattle.room.proofs.RoomLaws.{at-least}
 use Rattle.drawn_planes.specs.DrawnTable.{DrawnRoom}
 use Rattle.builder.specs.SheetEnd.{sheetSizes}
 
--- the slices of a drawing's table, and the scratch slice
-pub sheet-room : (t m b g rects spans d bytes scratch : List ℕ) → Roomy (t ∷ m ∷ b ∷ g ∷ rects ∷ spans ∷ d ∷ bytes ∷ scratch ∷ []) sheetSizes
-    → DrawnRoom t m b g rects bytes spans d × (textBytes ≤ length scratch)
-sheet-room t m b g rects spans d bytes scratch e =
-    let a = at-least 0 (map length (t ∷ m ∷ b ∷ g ∷ rects ∷ spans ∷ d ∷ bytes ∷ scratch ∷ [])) sheetSizes e in (
-      record {
-        layers = record { text = a .0; thin = a .1 .0; body = a .1 .1 .0; grid = a .1 .1 .1 .0 };
-        fourEach = a .1 .1 .1 .1 .0;
-        twoEach = a .1 .1 .1 .1 .1 .0;
-        plane = a .1 .1 .1 .1 .1 .1 .0;
-        allTexts = a .1 .1 .1 .1 .1 .1 .1 .0;
-      },
-      a .1 .1 .1 .1 .1 .1 .1 .1 .0,
-    )
+-- the slices of a drawing's table
+pub sheet-room : (t m b g rects spans d bytes : List ℕ) → Roomy (t ∷ m ∷ b ∷ g ∷ rects ∷ spans ∷ d ∷ bytes ∷ []) sheetSizes → DrawnRoom t m b g rects bytes spans d
+sheet-room t m b g rects spans d bytes e =
+    let a = at-least 0 (map length (t ∷ m ∷ b ∷ g ∷ rects ∷ spans ∷ d ∷ bytes ∷ [])) sheetSizes e in
+    record {
+      layers = record { text = a .0; thin = a .1 .0; body = a .1 .1 .0; grid = a .1 .1 .1 .0 };
+      fourEach = a .1 .1 .1 .1 .0;
+      twoEach = a .1 .1 .1 .1 .1 .0;
+      plane = a .1 .1 .1 .1 .1 .1 .0;
+      allTexts = a .1 .1 .1 .1 .1 .1 .1 .0;
+    }

@@ -3,20 +3,12 @@ use records::Outcome;
 use room::WorkSlices;
 ghost use mathlib.Core.List.{[], _∷_};
 ghost use mathlib.Core.Path.{_≡_};
-ghost use lib.ListN.{length};
 ghost use Rattle.lists.specs.Zeros.{zeros};
 ghost use Rattle.room.specs.Room.{Roomy};
 ghost use Rattle.builder.specs.SheetEnd.{sheetSizes, sheetEnd};
 
 // The least lengths of the work slices, in the order in which they are lent.
-const SHEET_SIZES: [usize; 9] = [15360, 15360, 15360, 15360, 4096, 2048, 4160, 61444, 61440];
-
-fn clear_two(a: &mut [u8], b: &mut [u8])
-    ensures { λ _. ⌜ (now (a .exit) ≡ zeros (now (a .entry))) × (now (b .exit) ≡ zeros (now (b .entry))) ⌝ }
-{
-    lists::clear_u8(a);
-    lists::clear_u8(b);
-}
+const SHEET_SIZES: [usize; 8] = [15360, 15360, 15360, 15360, 4096, 2048, 4160, 61444];
 
 fn clear_three(a: &mut [u32], b: &mut [u32], c: &mut [u32])
     ensures { λ _. ⌜ (now (a .exit) ≡ zeros (now (a .entry))) × (now (b .exit) ≡ zeros (now (b .entry))) × (now (c .exit) ≡ zeros (now (c .entry))) ⌝ }
@@ -37,11 +29,10 @@ fn sheet_cleared(
     spans: &mut [u32],
     plane: &mut [u32],
     bytes: &mut [u8],
-    scratch: &mut [u8],
     out: &mut [u8],
 ) -> Outcome
-    requires { ⌜ Roomy (now text ∷ now thins ∷ now bodies ∷ now grid ∷ now rects ∷ now spans ∷ now plane ∷ now bytes ∷ now scratch ∷ []) sheetSizes ⌝ }
-    ensures end { λ r. ⌜ sheetEnd (now (s .entry)) (now (text .entry) ∷ now (thins .entry) ∷ now (bodies .entry) ∷ now (grid .entry) ∷ now (rects .entry) ∷ now (spans .entry) ∷ now (plane .entry) ∷ now (bytes .entry) ∷ now (scratch .entry) ∷ []) (now (out .entry)) ≡ record { outcome = r; works = now (text .exit) ∷ now (thins .exit) ∷ now (bodies .exit) ∷ now (grid .exit) ∷ now (rects .exit) ∷ now (spans .exit) ∷ now (plane .exit) ∷ now (bytes .exit) ∷ now (scratch .exit) ∷ []; out = now (out .exit) } ⌝ }
+    requires { ⌜ Roomy (now text ∷ now thins ∷ now bodies ∷ now grid ∷ now rects ∷ now spans ∷ now plane ∷ now bytes ∷ []) sheetSizes ⌝ }
+    ensures end { λ r. ⌜ sheetEnd (now (s .entry)) (now (text .entry) ∷ now (thins .entry) ∷ now (bodies .entry) ∷ now (grid .entry) ∷ now (rects .entry) ∷ now (spans .entry) ∷ now (plane .entry) ∷ now (bytes .entry) ∷ []) (now (out .entry)) ≡ record { outcome = r; works = now (text .exit) ∷ now (thins .exit) ∷ now (bodies .exit) ∷ now (grid .exit) ∷ now (rects .exit) ∷ now (spans .exit) ∷ now (plane .exit) ∷ now (bytes .exit) ∷ []; out = now (out .exit) } ⌝ }
 {
     let r = drawn_records::sheet_record(
         s,
@@ -53,12 +44,11 @@ fn sheet_cleared(
         spans,
         plane,
         bytes,
-        scratch,
         out,
     );
     ends::clear_four(text, thins, bodies, grid);
     clear_three(rects, spans, plane);
-    clear_two(bytes, scratch);
+    lists::clear_u8(bytes);
     r
 }
 
@@ -73,10 +63,9 @@ pub fn read_sheet(
     spans: &mut [u32],
     plane: &mut [u32],
     bytes: &mut [u8],
-    scratch: &mut [u8],
     out: &mut [u8],
 ) -> Outcome
-    ensures end { λ r. ⌜ sheetEnd (now (s .entry)) (now (text .entry) ∷ now (thins .entry) ∷ now (bodies .entry) ∷ now (grid .entry) ∷ now (rects .entry) ∷ now (spans .entry) ∷ now (plane .entry) ∷ now (bytes .entry) ∷ now (scratch .entry) ∷ []) (now (out .entry)) ≡ record { outcome = r; works = now (text .exit) ∷ now (thins .exit) ∷ now (bodies .exit) ∷ now (grid .exit) ∷ now (rects .exit) ∷ now (spans .exit) ∷ now (plane .exit) ∷ now (bytes .exit) ∷ now (scratch .exit) ∷ []; out = now (out .exit) } ⌝ }
+    ensures end { λ r. ⌜ sheetEnd (now (s .entry)) (now (text .entry) ∷ now (thins .entry) ∷ now (bodies .entry) ∷ now (grid .entry) ∷ now (rects .entry) ∷ now (spans .entry) ∷ now (plane .entry) ∷ now (bytes .entry) ∷ []) (now (out .entry)) ≡ record { outcome = r; works = now (text .exit) ∷ now (thins .exit) ∷ now (bodies .exit) ∷ now (grid .exit) ∷ now (rects .exit) ∷ now (spans .exit) ∷ now (plane .exit) ∷ now (bytes .exit) ∷ []; out = now (out .exit) } ⌝ }
 {
     let lens = [
         text.len(),
@@ -87,7 +76,6 @@ pub fn read_sheet(
         spans.len(),
         plane.len(),
         bytes.len(),
-        scratch.len(),
     ];
     let sizes = SHEET_SIZES;
     match room::work_slices(&lens, &sizes) {
@@ -101,7 +89,6 @@ pub fn read_sheet(
             spans,
             plane,
             bytes,
-            scratch,
             out,
         ),
         WorkSlices::Short(r) => Outcome::Refused(r),

@@ -43,18 +43,12 @@ fn table_of(
 }
 
 // The record of a table whose texts lie in the first 61,440 bytes, or its refusal.
-fn write_drawn(
-    t: Recognized,
-    bytes: &[u8],
-    slots: &[u32],
-    scratch: &mut [u8],
-    out: &mut [u8],
-) -> Outcome
-    requires { ⌜ AnswerHeld t (take textBytes (now bytes)) (now slots) × (textBytes ≤ length (now bytes)) × (3 * slotLimit ≤ length (now slots)) × (textBytes ≤ length (now scratch)) ⌝ }
+fn write_drawn(t: Recognized, bytes: &[u8], slots: &[u32], out: &mut [u8]) -> Outcome
+    requires { ⌜ AnswerHeld t (take textBytes (now bytes)) (now slots) × (textBytes ≤ length (now bytes)) × (3 * slotLimit ≤ length (now slots)) ⌝ }
     ensures outcome { λ r. ⌜ r ≡ outcomeOf (namedTable t (take textBytes (now (bytes .entry))) (now (slots .entry))) (length (now (out .entry))) ⌝ }
     ensures out { λ _. ⌜ now (out .exit) ≡ recordOf (namedTable t (take textBytes (now (bytes .entry))) (now (slots .entry))) (now (out .entry)) ⌝ }
 {
-    records::write_recognized(t, &bytes[0..TEXT_BYTES], slots, scratch, out)
+    records::write_recognized(t, &bytes[0..TEXT_BYTES], slots, out)
 }
 
 // The record of a drawing. Once there is a plane the layers are not needed: the upright sheet goes where BODY was,
@@ -69,14 +63,13 @@ pub fn sheet_record(
     spans: &mut [u32],
     plane: &mut [u32],
     bytes: &mut [u8],
-    scratch: &mut [u8],
     out: &mut [u8],
 ) -> Outcome
-    requires { ⌜ DrawnRoom (now text) (now thins) (now bodies) (now grid) (now rects) (now bytes) (now spans) (now plane) × (textBytes ≤ length (now scratch)) ⌝ }
+    requires { ⌜ DrawnRoom (now text) (now thins) (now bodies) (now grid) (now rects) (now bytes) (now spans) (now plane) ⌝ }
     ensures outcome { λ r. ⌜ r ≡ outcomeOf (tableRead (walkedPolicy (now (s .entry)))) (length (now (out .entry))) ⌝ }
     ensures out { λ _. ⌜ now (out .exit) ≡ recordOf (tableRead (walkedPolicy (now (s .entry)))) (now (out .entry)) ⌝ }
 {
     let d = drawn_planes::drawn_plane(s, text, thins, bodies, grid, rects, bytes, spans, plane);
     let t = table_of(d, plane, bytes, spans, bodies, thins);
-    write_drawn(t, bytes, thins, scratch, out)
+    write_drawn(t, bytes, thins, out)
 }

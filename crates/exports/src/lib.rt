@@ -19,12 +19,11 @@ pub extern "C" fn fezandimo_read_sheet(
     spans: &mut [u32],
     plane: &mut [u32],
     bytes: &mut [u8],
-    scratch: &mut [u8],
     out: &mut [u8],
 ) -> Answer
-    ensures answer { λ r. ⌜ r ≡ answerOf (sheetEnd (now (s .entry)) (now (text .entry) ∷ now (thins .entry) ∷ now (bodies .entry) ∷ now (grid .entry) ∷ now (rects .entry) ∷ now (spans .entry) ∷ now (plane .entry) ∷ now (bytes .entry) ∷ now (scratch .entry) ∷ []) (now (out .entry)) .outcome) ⌝ }
-    ensures works { λ _. ⌜ (now (text .exit) ∷ now (thins .exit) ∷ now (bodies .exit) ∷ now (grid .exit) ∷ now (rects .exit) ∷ now (spans .exit) ∷ now (plane .exit) ∷ now (bytes .exit) ∷ now (scratch .exit) ∷ []) ≡ sheetEnd (now (s .entry)) (now (text .entry) ∷ now (thins .entry) ∷ now (bodies .entry) ∷ now (grid .entry) ∷ now (rects .entry) ∷ now (spans .entry) ∷ now (plane .entry) ∷ now (bytes .entry) ∷ now (scratch .entry) ∷ []) (now (out .entry)) .works ⌝ }
-    ensures out { λ _. ⌜ now (out .exit) ≡ sheetEnd (now (s .entry)) (now (text .entry) ∷ now (thins .entry) ∷ now (bodies .entry) ∷ now (grid .entry) ∷ now (rects .entry) ∷ now (spans .entry) ∷ now (plane .entry) ∷ now (bytes .entry) ∷ now (scratch .entry) ∷ []) (now (out .entry)) .out ⌝ }
+    ensures answer { λ r. ⌜ r ≡ answerOf (sheetEnd (now (s .entry)) (now (text .entry) ∷ now (thins .entry) ∷ now (bodies .entry) ∷ now (grid .entry) ∷ now (rects .entry) ∷ now (spans .entry) ∷ now (plane .entry) ∷ now (bytes .entry) ∷ []) (now (out .entry)) .outcome) ⌝ }
+    ensures works { λ _. ⌜ (now (text .exit) ∷ now (thins .exit) ∷ now (bodies .exit) ∷ now (grid .exit) ∷ now (rects .exit) ∷ now (spans .exit) ∷ now (plane .exit) ∷ now (bytes .exit) ∷ []) ≡ sheetEnd (now (s .entry)) (now (text .entry) ∷ now (thins .entry) ∷ now (bodies .entry) ∷ now (grid .entry) ∷ now (rects .entry) ∷ now (spans .entry) ∷ now (plane .entry) ∷ now (bytes .entry) ∷ []) (now (out .entry)) .works ⌝ }
+    ensures out { λ _. ⌜ now (out .exit) ≡ sheetEnd (now (s .entry)) (now (text .entry) ∷ now (thins .entry) ∷ now (bodies .entry) ∷ now (grid .entry) ∷ now (rects .entry) ∷ now (spans .entry) ∷ now (plane .entry) ∷ now (bytes .entry) ∷ []) (now (out .entry)) .out ⌝ }
 {
     let o = builder::read_sheet(
         s,
@@ -36,7 +35,6 @@ pub extern "C" fn fezandimo_read_sheet(
         spans,
         plane,
         bytes,
-        scratch,
         out,
     );
     numbers::outcome_answer(o)
@@ -55,12 +53,11 @@ pub extern "C" fn fezandimo_read_lent_plane(
     spans: &mut [u32],
     upright: &mut [u32],
     slots: &mut [u32],
-    scratch: &mut [u8],
     out: &mut [u8],
 ) -> Answer
-    ensures answer { λ r. ⌜ r ≡ answerOf (lentEnd (record { rows = now (rows .entry); kinds = now (kinds .entry); regions = now (regions .entry); offsets = now (offsets .entry); sizes = now (sizes .entry); bytes = now (bytes .entry) }) (now (plane .entry) ∷ now (spans .entry) ∷ now (upright .entry) ∷ now (slots .entry) ∷ now (scratch .entry) ∷ []) (now (out .entry)) .outcome) ⌝ }
-    ensures works { λ _. ⌜ (now (plane .exit) ∷ now (spans .exit) ∷ now (upright .exit) ∷ now (slots .exit) ∷ now (scratch .exit) ∷ []) ≡ lentEnd (record { rows = now (rows .entry); kinds = now (kinds .entry); regions = now (regions .entry); offsets = now (offsets .entry); sizes = now (sizes .entry); bytes = now (bytes .entry) }) (now (plane .entry) ∷ now (spans .entry) ∷ now (upright .entry) ∷ now (slots .entry) ∷ now (scratch .entry) ∷ []) (now (out .entry)) .works ⌝ }
-    ensures out { λ _. ⌜ now (out .exit) ≡ lentEnd (record { rows = now (rows .entry); kinds = now (kinds .entry); regions = now (regions .entry); offsets = now (offsets .entry); sizes = now (sizes .entry); bytes = now (bytes .entry) }) (now (plane .entry) ∷ now (spans .entry) ∷ now (upright .entry) ∷ now (slots .entry) ∷ now (scratch .entry) ∷ []) (now (out .entry)) .out ⌝ }
+    ensures answer { λ r. ⌜ r ≡ answerOf (lentEnd (record { rows = now (rows .entry); kinds = now (kinds .entry); regions = now (regions .entry); offsets = now (offsets .entry); sizes = now (sizes .entry); bytes = now (bytes .entry) }) (now (plane .entry) ∷ now (spans .entry) ∷ now (upright .entry) ∷ now (slots .entry) ∷ []) (now (out .entry)) .outcome) ⌝ }
+    ensures works { λ _. ⌜ (now (plane .exit) ∷ now (spans .exit) ∷ now (upright .exit) ∷ now (slots .exit) ∷ []) ≡ lentEnd (record { rows = now (rows .entry); kinds = now (kinds .entry); regions = now (regions .entry); offsets = now (offsets .entry); sizes = now (sizes .entry); bytes = now (bytes .entry) }) (now (plane .entry) ∷ now (spans .entry) ∷ now (upright .entry) ∷ now (slots .entry) ∷ []) (now (out .entry)) .works ⌝ }
+    ensures out { λ _. ⌜ now (out .exit) ≡ lentEnd (record { rows = now (rows .entry); kinds = now (kinds .entry); regions = now (regions .entry); offsets = now (offsets .entry); sizes = now (sizes .entry); bytes = now (bytes .entry) }) (now (plane .entry) ∷ now (spans .entry) ∷ now (upright .entry) ∷ now (slots .entry) ∷ []) (now (out .entry)) .out ⌝ }
 {
     let o = lent_builder::read_lent_plane(
         rows,
@@ -73,7 +70,6 @@ pub extern "C" fn fezandimo_read_lent_plane(
         spans,
         upright,
         slots,
-        scratch,
         out,
     );
     numbers::outcome_answer(o)

@@ -3,12 +3,11 @@ use records::Outcome;
 use room::WorkSlices;
 ghost use mathlib.Core.List.{[], _∷_};
 ghost use mathlib.Core.Path.{_≡_};
-ghost use lib.ListN.{length};
 ghost use Rattle.room.specs.Room.{Roomy};
 ghost use Rattle.lent_builder.specs.LentEnd.{lentSizes, lentEnd};
 
 // The least lengths of the work slices, in the order in which they are lent.
-const LENT_SIZES: [usize; 5] = [4160, 2048, 4160, 12480, 61440];
+const LENT_SIZES: [usize; 4] = [4160, 2048, 4160, 12480];
 
 // The record of a lent plane; then the work slices are cleared.
 fn lent_cleared(
@@ -22,11 +21,10 @@ fn lent_cleared(
     spans: &mut [u32],
     upright: &mut [u32],
     slots: &mut [u32],
-    scratch: &mut [u8],
     out: &mut [u8],
 ) -> Outcome
-    requires { ⌜ Roomy (now plane ∷ now spans ∷ now upright ∷ now slots ∷ now scratch ∷ []) lentSizes ⌝ }
-    ensures end { λ r. ⌜ lentEnd (record { rows = now (rows .entry); kinds = now (kinds .entry); regions = now (regions .entry); offsets = now (offsets .entry); sizes = now (sizes .entry); bytes = now (bytes .entry) }) (now (plane .entry) ∷ now (spans .entry) ∷ now (upright .entry) ∷ now (slots .entry) ∷ now (scratch .entry) ∷ []) (now (out .entry)) ≡ record { outcome = r; works = now (plane .exit) ∷ now (spans .exit) ∷ now (upright .exit) ∷ now (slots .exit) ∷ now (scratch .exit) ∷ []; out = now (out .exit) } ⌝ }
+    requires { ⌜ Roomy (now plane ∷ now spans ∷ now upright ∷ now slots ∷ []) lentSizes ⌝ }
+    ensures end { λ r. ⌜ lentEnd (record { rows = now (rows .entry); kinds = now (kinds .entry); regions = now (regions .entry); offsets = now (offsets .entry); sizes = now (sizes .entry); bytes = now (bytes .entry) }) (now (plane .entry) ∷ now (spans .entry) ∷ now (upright .entry) ∷ now (slots .entry) ∷ []) (now (out .entry)) ≡ record { outcome = r; works = now (plane .exit) ∷ now (spans .exit) ∷ now (upright .exit) ∷ now (slots .exit) ∷ []; out = now (out .exit) } ⌝ }
 {
     let r = lent_records::lent_record(
         rows,
@@ -39,11 +37,9 @@ fn lent_cleared(
         spans,
         upright,
         slots,
-        scratch,
         out,
     );
     ends::clear_four(plane, spans, upright, slots);
-    lists::clear_u8(scratch);
     r
 }
 
@@ -59,18 +55,11 @@ pub fn read_lent_plane(
     spans: &mut [u32],
     upright: &mut [u32],
     slots: &mut [u32],
-    scratch: &mut [u8],
     out: &mut [u8],
 ) -> Outcome
-    ensures end { λ r. ⌜ lentEnd (record { rows = now (rows .entry); kinds = now (kinds .entry); regions = now (regions .entry); offsets = now (offsets .entry); sizes = now (sizes .entry); bytes = now (bytes .entry) }) (now (plane .entry) ∷ now (spans .entry) ∷ now (upright .entry) ∷ now (slots .entry) ∷ now (scratch .entry) ∷ []) (now (out .entry)) ≡ record { outcome = r; works = now (plane .exit) ∷ now (spans .exit) ∷ now (upright .exit) ∷ now (slots .exit) ∷ now (scratch .exit) ∷ []; out = now (out .exit) } ⌝ }
+    ensures end { λ r. ⌜ lentEnd (record { rows = now (rows .entry); kinds = now (kinds .entry); regions = now (regions .entry); offsets = now (offsets .entry); sizes = now (sizes .entry); bytes = now (bytes .entry) }) (now (plane .entry) ∷ now (spans .entry) ∷ now (upright .entry) ∷ now (slots .entry) ∷ []) (now (out .entry)) ≡ record { outcome = r; works = now (plane .exit) ∷ now (spans .exit) ∷ now (upright .exit) ∷ now (slots .exit) ∷ []; out = now (out .exit) } ⌝ }
 {
-    let lens = [
-        plane.len(),
-        spans.len(),
-        upright.len(),
-        slots.len(),
-        scratch.len(),
-    ];
+    let lens = [plane.len(), spans.len(), upright.len(), slots.len()];
     let least = LENT_SIZES;
     match room::work_slices(&lens, &least) {
         WorkSlices::Enough => lent_cleared(
@@ -84,7 +73,6 @@ pub fn read_lent_plane(
             spans,
             upright,
             slots,
-            scratch,
             out,
         ),
         WorkSlices::Short(r) => Outcome::Refused(r),

@@ -3,9 +3,7 @@ use lent::Loaded;
 use recognizer::Recognized;
 use records::Outcome;
 ghost use mathlib.Core.Path.{_≡_};
-ghost use Prim.Native.Nat.{_≤_};
 ghost use lib.ListN.{length};
-ghost use Rattle.model.specs.Limits.{textBytes};
 ghost use Rattle.recognizer.specs.Told.{tableRead};
 ghost use Rattle.tables.specs.NamedTable.{namedTable, AnswerHeld};
 ghost use Rattle.policies.specs.LentPolicy.{lentPolicy};
@@ -56,10 +54,9 @@ pub fn lent_record(
     spans: &mut [u32],
     upright: &mut [u32],
     slots: &mut [u32],
-    scratch: &mut [u8],
     out: &mut [u8],
 ) -> Outcome
-    requires { ⌜ LentRoom (now plane) (now spans) (now upright) (now slots) × (textBytes ≤ length (now scratch)) ⌝ }
+    requires { ⌜ LentRoom (now plane) (now spans) (now upright) (now slots) ⌝ }
     ensures outcome { λ r. ⌜ r ≡ outcomeOf (tableRead (lentPolicy (record { rows = now (rows .entry); kinds = now (kinds .entry); regions = now (regions .entry); offsets = now (offsets .entry); sizes = now (sizes .entry); bytes = now (bytes .entry) }))) (length (now (out .entry))) ⌝ }
     ensures out { λ _. ⌜ now (out .exit) ≡ recordOf (tableRead (lentPolicy (record { rows = now (rows .entry); kinds = now (kinds .entry); regions = now (regions .entry); offsets = now (offsets .entry); sizes = now (sizes .entry); bytes = now (bytes .entry) }))) (now (out .entry)) ⌝ }
 {
@@ -75,5 +72,5 @@ pub fn lent_record(
         upright,
         slots,
     );
-    records::write_recognized(t, bytes, slots, scratch, out)
+    records::write_recognized(t, bytes, slots, out)
 }

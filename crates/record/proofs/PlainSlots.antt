@@ -8,13 +8,11 @@ use native.Mathlib.Nat.{eq-or-lt-of-le}
 use native.Mathlib.Numerals.{add-one}
 use native.Mathlib.Omega.{arith}
 use lib.Dec.{ltb}
-use lib.ListN.{length, getD, take, drop}
-use lib.Seq.{drop-cons}
+use lib.ListN.{length}
 use borrow.Author.Tests.{lt-ltb, le-ltb, ltb-true, ltb-false}
 use Rattle.lists.specs.Run.{run}
 use Rattle.lists.proofs.RunLaws.{length-run}
 use Rattle.lists.proofs.Tests.{by-flag}
-use Rattle.record.specs.Policy.{Text}
 use Rattle.record.specs.Slots.{kindAt, partAt, ofKind, textAt, plainSlots, plainTexts}
 
 -- the text of an absent slot, and of a part
@@ -78,16 +76,6 @@ module _ (d : List ℕ) where
       let m : i + plainSlots d i (suc n) ≡ suc i + plainSlots d (suc i) n = omega arith in
       rw m (plain-behind n (suc i) (omega arith)))
 
--- a list that has f i, f (i + 1), .. from i on
-take-run : {A : Type 0} (f : ℕ → A) (l : List A) (z : A) (n i : ℕ) → i + n ≤ length l → ((j : ℕ) → i ≤ j → j < i + n → getD l j z ≡ f j)
-    → take n (drop i l) ≡ run f i n
-unfolding run
-take-run f l z zero i h g = refl
-take-run {A} f l z (suc n) i h g =
-    let a : getD l i z ≡ f i = g i (omega arith) (omega arith) in
-    let b : take n (drop (suc i) l) ≡ run f (suc i) n = take-run f l z n (suc i) (omega arith) (λ j p q. g j (omega arith) (omega arith)) in
-    rw (drop-cons l i z (omega arith), a, b)
-
 module _ (s d : List ℕ) (i c : ℕ) where
   pub length-plain : length (plainTexts s d i c) ≡ plainSlots d i (c - i)
   length-plain = length-run (textAt s d) i (plainSlots d i (c - i))
@@ -102,9 +90,3 @@ module _ (s d : List ℕ) (i c : ℕ) where
   pub plain-text : i < c → kindAt d i ≤ 1 → plainTexts s d i c ≡ textAt s d i ∷ plainTexts s d (i + 1) c
   unfolding run
   plain-text h k = rw (plain-slot d i c h k, add-one i)
-
-  -- the next texts of a list that has these texts at the run's places
-  pub plain-next : (ts : List Text) → i + plainSlots d i (c - i) ≤ length ts
-      → ((j : ℕ) → i ≤ j → j < i + plainSlots d i (c - i) → getD ts j none ≡ textAt s d j)
-      → take (length (plainTexts s d i c)) (drop i ts) ≡ plainTexts s d i c
-  plain-next ts h g = rw length-plain (take-run (textAt s d) ts none (plainSlots d i (c - i)) i h g)

@@ -9,7 +9,7 @@ use lib.ListN.{length, getD, take, drop, length-append}
 use lib.Seq.{take-suc, take-all, length-take-le}
 use borrow.Author.Tests.{lt-ltb, le-ltb}
 use Rattle.lists.specs.Put.{put}
-use Rattle.lists.proofs.PutLaws.{put-nil, put-next}
+use Rattle.lists.proofs.PutLaws.{put-nil, put-next, put-comm}
 use Rattle.model.specs.declared.Refusal.the-variants.{OutputSliceShort}
 use Rattle.record.specs.declared.Begun.the-variants.{Record, NotWritten}
 use Rattle.record.specs.Policy.{Text}
@@ -32,11 +32,15 @@ begin-whole d x t ws h e = rw (le-ltb (length d) t h) (refl, e)
 pub two-words : (d x y : List ℕ) (at a b : ℕ) → at + 8 ≤ length d → x ≡ put d at (word a) → y ≡ put x (at + 4) (word b) → y ≡ put d at (word a ++ word b)
 two-words d x y at a b h ex ey = ey ∙ rw ex (put-next d at (word a) (word b) (at + 4) refl (omega arith))
 
--- a present text: its slot, and its bytes
-pub text-written : (d x y z : List ℕ) (i o : ℕ) (b : List ℕ) → slotOffset + 8 * i + 8 ≤ o → o + length b ≤ length d
-    → x ≡ put d (slotOffset + 8 * i) (word o) → y ≡ put x (slotOffset + 8 * i + 4) (word (length b)) → z ≡ put y o b → z ≡ withTexts d i o (some b ∷ [])
-text-written d x y z i o b h g ex ey ez =
-    ez ∙ rw (two-words d x y (slotOffset + 8 * i) o (length b) (omega arith) ex ey) (sym (with-present d i o b))
+-- a present text: its slot, then its bytes; or the bytes first
+pub text-written : (d y z : List ℕ) (i o : ℕ) (b : List ℕ) → y ≡ put d (slotOffset + 8 * i) (word o ++ word (length b)) → z ≡ put y o b → z ≡ withTexts d i o (some b ∷ [])
+text-written d y z i o b ey ez = ez ∙ rw ey (sym (with-present d i o b))
+
+pub slot-written : (d y z : List ℕ) (i o : ℕ) (b : List ℕ) → slotOffset + 8 * i + 8 ≤ o → o + length b ≤ length d
+    → y ≡ put d o b → z ≡ put y (slotOffset + 8 * i) (word o ++ word (length b)) → z ≡ withTexts d i o (some b ∷ [])
+slot-written d y z i o b h g ey ez =
+    text-written d (put d (slotOffset + 8 * i) (word o ++ word (length b))) z i o b refl
+    (ez ∙ rw ey (put-comm d (slotOffset + 8 * i) (word o ++ word (length b)) o b (omega arith) (omega arith)))
 
 -- a slot of the work slice that is absent
 pub absent-part : (s d x x' : List ℕ) (i o : ℕ) → kindAt d i ≡ 0 → x' ≡ put x (slotOffset + 8 * i) (slotOf 0 none)

@@ -3,11 +3,11 @@ use mathlib.Core.Path.{_≡_, refl, sym, ap, _∙_}
 use mathlib.Core.Bool.{Bool, true, false}
 use mathlib.Core.List.{List, [], _∷_, _++_, append-assoc, append-nil}
 use mathlib.Core.Option.{none, some}
-use Prim.Native.Nat.{ℕ, _+_, _-_, _*_, _^_, _<_, _≤_}
+use Prim.Native.Nat.{ℕ, _+_, _*_, _^_, _<_, _≤_}
 use native.Mathlib.Omega.{arith}
 use lib.Dec.{ltb}
-use lib.ListN.{length, getD, take, drop, length-append, length-take, length-drop, take-append-drop}
-use lib.Seq.{drop-cons, length-take-le, take-add, take-all}
+use lib.ListN.{length, take, drop, length-append, length-take, length-drop, take-append-drop}
+use lib.Seq.{length-take-le, take-add, take-all}
 use borrow.Author.Tests.{lt-ltb, le-ltb, ltb-true, ltb-false}
 use Rattle.lists.specs.Choose.{choose}
 use Rattle.lists.specs.Put.{put}
@@ -16,12 +16,11 @@ use Rattle.model.specs.declared.Refusal.{Refusal}
 use Rattle.model.specs.declared.Refusal.the-variants.{OutputSliceShort}
 use Rattle.record.specs.Policy.{Text}
 use Rattle.record.specs.Record.{Table, words, slotOf, packed, slotsOf, slotOffset, textOffset, slotsIn, total, headWords, encode}
-use Rattle.record.specs.Slots.{plainSlots, plainTexts, Fits}
+use Rattle.record.specs.Slots.{Fits}
 use Rattle.record.specs.declared.Begun.the-variants.{Record, NotWritten}
 use Rattle.record.specs.Written.{begunOf, headed, withTexts, writtenTo}
 use Rattle.record.proofs.Words.{length-words}
 use Rattle.record.proofs.Texts.{length-slots, packed-append, length-packed, packed-one, slots-append}
-use Rattle.record.proofs.PlainSlots.{length-plain}
 
 -- no text, an absent one, a present one
 pub with-none : (d : List ℕ) (i o : ℕ) → withTexts d i o [] ≡ d
@@ -74,10 +73,6 @@ text-fits b c i o n h f =
     let l = packed-one b in
     (omega (arith, f .behind), omega (arith, f .room), omega (arith, f .small))
 
--- the next text of a list, by its place
-pub one-next : (ts : List Text) (i : ℕ) (t : Text) → i < length ts → getD ts i none ≡ t → take 1 (drop i ts) ≡ t ∷ []
-one-next ts i t h e = rw (drop-cons ts i none h, e)
-
 -- what beginning a record answers
 module _ (n t : ℕ) where
   pub begun-whole : (k : ℕ) → begunOf n t ≡ Record k → (t ≤ n) × (k ≡ t)
@@ -124,13 +119,6 @@ module _ (d : List ℕ) (t : Table) (counted : length (t .texts) ≡ slotsIn t) 
   length-front : length (put d 0 (words (headWords t))) ≡ length d
   length-front = length-put d 0 (words (headWords t)) (omega (arith, length-words (headWords t)))
 
-  pub length-written : (i : ℕ) → i ≤ slotsIn t → length (writtenTo d t i) ≡ length d
-  unfolding writtenTo
-  length-written i h =
-      let l = length-taken i h in
-      length-with (put d 0 (words (headWords t))) 0 (textOffset (slotsIn t)) (take i (t .texts)) (omega (arith, offset-within i, length-front)) (omega arith)
-      ∙ length-front
-
   -- all texts: the record, and behind it the slice as it was
   pub written-all : (i : ℕ) → i ≡ slotsIn t → writtenTo d t i ≡ encode t ++ drop (total t) d
   unfolding writtenTo withTexts encode
@@ -157,9 +145,6 @@ module _ (d : List ℕ) (t : Table) (counted : length (t .texts) ≡ slotsIn t) 
       record { along = omega arith; here = ex ∙ rw (en, ew) (headed-whole d t room); offset = omega arith }
 
   module _ {x : List ℕ} {i o : ℕ} (s : Standing d t x i o) where
-    pub standing-length : length x ≡ length d
-    standing-length = ap length (s .here) ∙ length-written i (s .along)
-
     -- the next texts
     module _ (ts : List Text) (next : take (length ts) (drop i (t .texts)) ≡ ts) where
       next-few : i + length ts ≤ slotsIn t
@@ -172,19 +157,6 @@ module _ (d : List ℕ) (t : Table) (counted : length (t .texts) ≡ slotsIn t) 
 
       next-offset : offsetTo t (i + length ts) ≡ o + length (packed ts)
       next-offset = let e = s .offset in rw next-taken (omega (arith, length-packed (take i (t .texts)) ts))
-
-      -- room for them
-      pub standing-fits : (c : ℕ) → c ≡ slotsIn t → total t < 2 ^ 32 → Fits ts c i o (length x)
-      standing-fits c e f =
-          let l = offset-within (i + length ts) in
-          let a = s .along in
-          let h = s .offset in
-          record {
-            along = omega arith;
-            behind = omega arith;
-            room = omega (arith, next-offset, standing-length);
-            small = omega (arith, next-offset);
-          }
 
       -- written
       pub standing-next : (x' : List ℕ) (i' o' : ℕ) → x' ≡ withTexts x i o ts → i' ≡ i + length ts → o' ≡ o + length (packed ts) → Standing d t x' i' o'
@@ -201,20 +173,6 @@ module _ (d : List ℕ) (t : Table) (counted : length (t .texts) ≡ slotsIn t) 
             here = ex ∙ rw (s .here, ei) w;
             offset = eo ∙ rw ei (sym next-offset);
           }
-
-    -- one present text: what `put_text` asks, and what it leaves
-    module _ (b : List ℕ) (next : take 1 (drop i (t .texts)) ≡ some b ∷ []) where
-      pub standing-fits-text : total t < 2 ^ 32 → (slotOffset + 8 * i + 8 ≤ o) × (o + length b ≤ length x) × (o + length b < 2 ^ 32)
-      standing-fits-text f = text-fits b (slotsIn t) i o (length x) (omega (arith, next-few (some b ∷ []) next)) (standing-fits (some b ∷ []) next (slotsIn t) refl f)
-
-      pub standing-text : (x' : List ℕ) (i' o' : ℕ) → x' ≡ withTexts x i o (some b ∷ []) → i' ≡ i + 1 → o' ≡ o + length b → Standing d t x' i' o'
-      standing-text x' i' o' ex ei eo = standing-next (some b ∷ []) next x' i' o' ex ei (eo ∙ rw (packed-one b))
-
-    -- a run of plain slots: what `put_parts` leaves
-    pub standing-parts : (p w : List ℕ) (c : ℕ) → take (length (plainTexts p w i c)) (drop i (t .texts)) ≡ plainTexts p w i c
-        → (x' : List ℕ) (i' o' : ℕ) → x' ≡ withTexts x i o (plainTexts p w i c) → i' ≡ i + plainSlots w i (c - i) → o' ≡ o + length (packed (plainTexts p w i c))
-        → Standing d t x' i' o'
-    standing-parts p w c next x' i' o' ex ei eo = standing-next (plainTexts p w i c) next x' i' o' ex (ei ∙ rw (length-plain p w i c)) eo
 
     pub standing-end : i ≡ slotsIn t → x ≡ encode t ++ drop (total t) d
     standing-end e = s .here ∙ written-all i e

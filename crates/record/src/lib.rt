@@ -1,12 +1,12 @@
 // The table record, written to a slice: header, slots, and texts packed in slot order.
 use model::Refusal;
-ghost use mathlib.Core.List.{[], _∷_};
-ghost use mathlib.Core.Option.{none, some};
+ghost use mathlib.Core.List.{[], _∷_, _++_};
+ghost use mathlib.Core.Option.{some};
 ghost use mathlib.Core.Path.{_≡_};
 ghost use Prim.Native.Nat.{_+_, _-_, _*_, _<_, _≤_, _^_};
 ghost use lib.ListN.{length, take, drop};
 ghost use Rattle.lists.specs.Put.{put};
-ghost use Rattle.record.specs.Record.{word, words, slotOf, bytesOf, packed, slotOffset, textOffset};
+ghost use Rattle.record.specs.Record.{word, words, bytesOf, packed, slotOffset, textOffset};
 ghost use Rattle.record.specs.Slots.{Parts, Fits, kindAt, textAt, plainSlots, plainTexts};
 ghost use Rattle.record.specs.Written.{begunOf, headed, withTexts};
 
@@ -87,25 +87,23 @@ pub fn begin_record(out: &mut [u8], h: Head, slots: usize, bytes: usize) -> Begu
     Begun::Record(total)
 }
 
-// A slot whose text is absent.
-fn put_absent(out: &mut [u8], slot: usize)
-    requires { ⌜ slotOffset + 8 * slot + 8 ≤ length (now out) ⌝ }
-    ensures { λ _. ⌜ now (out .exit) ≡ put (now (out .entry)) (slotOffset + 8 * slot) (slotOf 0 none) ⌝ }
+// The slot of a text of n bytes that stands at an offset.
+pub fn put_slot(out: &mut [u8], slot: usize, offset: usize, n: usize)
+    requires { ⌜ (slotOffset + 8 * slot + 8 ≤ length (now out)) × (offset < 2 ^ 32) × (n < 2 ^ 32) ⌝ }
+    ensures { λ _. ⌜ now (out .exit) ≡ put (now (out .entry)) (slotOffset + 8 * slot) (word offset ++ word n) ⌝ }
 {
     let at = 40 + 8 * slot;
-    put_word(out, at, 0);
-    put_word(out, at + 4, 0);
+    put_word(out, at, offset as u32);
+    put_word(out, at + 4, n as u32);
 }
 
 // A slot whose text is present, and the text at the running offset; the offset behind it.
-pub fn put_text(out: &mut [u8], slot: usize, offset: usize, text: &[u8]) -> usize
+fn put_text(out: &mut [u8], slot: usize, offset: usize, text: &[u8]) -> usize
     requires { ⌜ (slotOffset + 8 * slot + 8 ≤ offset) × (offset + length (now text) ≤ length (now out)) × (offset + length (now text) < 2 ^ 32) ⌝ }
     ensures { λ r. ⌜ r ≡ offset + length (now (text .entry)) ⌝ }
     ensures { λ _. ⌜ now (out .exit) ≡ withTexts (now (out .entry)) slot offset (some (now (text .entry)) ∷ []) ⌝ }
 {
-    let at = 40 + 8 * slot;
-    put_word(out, at, offset as u32);
-    put_word(out, at + 4, text.len() as u32);
+    put_slot(out, slot, offset, text.len());
     lists::put_bytes(out, offset, text);
     offset + text.len()
 }
@@ -140,7 +138,7 @@ fn put_part(
     ensures { λ _. ⌜ now (out .exit) ≡ withTexts (now (out .entry)) slot offset (textAt (now (texts .entry)) (now (slots .entry)) slot ∷ []) ⌝ }
 {
     if slots[3 * slot] == ABSENT {
-        put_absent(out, slot);
+        put_slot(out, slot, 0, 0);
         return offset;
     }
     let a = wide(slots[3 * slot + 1]);
@@ -148,7 +146,7 @@ fn put_part(
     put_text(out, slot, offset, part(texts, a, n))
 }
 
-// The slots from one on, of so many, up to the first whose bytes the caller hands over; with their texts.
+// The slots from one on, of so many, up to the first whose text the caller writes; with their texts.
 pub fn put_parts(
     out: &mut [u8],
     slots: &[u32],

@@ -1,6 +1,5 @@
 // What is printed for a sheet and for a lent plane: the record's lines, or the refusal.
 use model::limits::CANVAS_SIZE;
-use model::limits::TEXT_BYTES;
 use records::Outcome;
 ghost use mathlib.Core.Path.{_≡_};
 ghost use Prim.Native.Nat.{_+_, _≤_};
@@ -40,7 +39,6 @@ pub fn put_sheet(out: &mut [u8], at: usize, s: &[u8]) -> usize
     let mut spans = [0u32; 2048];
     let mut plane = [0u32; 4160];
     let mut bytes = [0u8; 61444];
-    let mut scratch = [0u8; TEXT_BYTES];
     let mut record = [0u8; RECORD_BYTES];
     let drawn = builder::read_sheet(
         s,
@@ -52,7 +50,6 @@ pub fn put_sheet(out: &mut [u8], at: usize, s: &[u8]) -> usize
         &mut spans,
         &mut plane,
         &mut bytes,
-        &mut scratch,
         &mut record,
     );
     put_outcome(out, at, drawn, &record)
@@ -76,7 +73,6 @@ pub fn put_lent_plane(
     let mut spans = [0u32; 2048];
     let mut upright = [0u32; 4160];
     let mut slots = [0u32; 12480];
-    let mut scratch = [0u8; TEXT_BYTES];
     let mut record = [0u8; RECORD_BYTES];
     let stated = lent_builder::read_lent_plane(
         rows,
@@ -89,7 +85,6 @@ pub fn put_lent_plane(
         &mut spans,
         &mut upright,
         &mut slots,
-        &mut scratch,
         &mut record,
     );
     put_outcome(out, at, stated, &record)

@@ -22,7 +22,7 @@ use Rattle.emphasis.specs.Commas.{parts}
 use Rattle.emphasis.specs.Emphasis.{Choice, plain, marked, choiceOf}
 use Rattle.emphasis.specs.Found.{FoundIn}
 use Rattle.emphasis.proofs.Finding.{between, Sized, first-sized}
-use Rattle.utils.specs.Split.{replaceAll, Values, valuesBy, valuesOf, splitBy, splitOf, scratchBy, scratchOf, answered, Places, allowedIn, MeasuredOf}
+use Rattle.utils.specs.Split.{replaceAll, Values, valuesBy, valuesOf, splitBy, splitOf, scratchBy, scratchOf, answered, Places, MeasuredOf}
 use Rattle.utils.specs.declared.Measured.the-variants.{Plain, Marked}
 use Rattle.utils.specs.declared.Split.{Split}
 use Rattle.utils.specs.declared.Split.the-variants.{Own, Rewritten, NotSplit}
@@ -54,6 +54,15 @@ module _ {t : List ℕ} {from to a b : ℕ} {hit : Bool} (i : FoundIn t hit from
   -- the part is not empty, and its bare text is at most as long
   pub part-sizes : hit ≡ true → (0 < length (between t from to)) × (length (between t a b) ≤ length (between t from to))
   part-sizes h = rw (chosen h) at (first-sized 0 (parts t))
+
+  -- the allowed values, where they are the text itself, and where they are rewritten
+  pub allowed-plain : hit ≡ false → valuesOf t .allowed ≡ t
+  unfolding valuesOf
+  allowed-plain h = rw (none-chosen h)
+
+  pub allowed-marked : hit ≡ true → valuesOf t .allowed ≡ replaceAll 0 (between t from to) (between t a b) t
+  unfolding valuesOf
+  allowed-marked h = rw (chosen h)
 
   pub measured-plain : hit ≡ false → MeasuredOf Plain t
   unfolding valuesOf
@@ -107,13 +116,6 @@ module _ (t d : List ℕ) (room : ℕ) where
       let v = split-ok t room _ (sym e) .1 in
       (ap (λ (x : Values). x .allowed) v, ap (λ (x : Values). x .default) v)
 
-pub allowed-in : (r : Split) (t d : List ℕ) (v : Values) → answered r t d ≡ ok v → allowedIn r t d ≡ v .allowed
-allowed-in Own t d v e = let w : record { allowed = t; default = none } ≡ v = cc in ap (λ (x : Values). x .allowed) w
-allowed-in (Rewritten n from to) t d v e =
-    let w : record { allowed = take n d; default = some (take (to - from) (drop from t)) } ≡ v = cc in
-    ap (λ (x : Values). x .allowed) w
-allowed-in (NotSplit r) t d v e = refused-ok e
-
 -- the allowed values are no longer than the text, so a slice of its length has room for them
 pub split-length : (t : List ℕ) → length (valuesOf t .allowed) ≤ length t
 unfolding valuesOf
@@ -123,7 +125,7 @@ split-length t = go (choiceOf t) (first-sized 0 (parts t))
     go plain h = omega arith
     go (marked place part bare) h = replace-length part bare (h .0) (h .1) t
 
-pub split-fits : (t : List ℕ) (room : ℕ) → length t ≤ room → splitBy (choiceOf t) t room ≡ ok (valuesOf t)
+split-fits : (t : List ℕ) (room : ℕ) → length t ≤ room → splitBy (choiceOf t) t room ≡ ok (valuesOf t)
 unfolding valuesOf
 split-fits t room h = go (choiceOf t) (split-length t)
   where

@@ -97,24 +97,26 @@ module _ {p q s : List ℕ} {i n : ℕ} (m : Measuring p q s i n) where
         let a = length-append q (replaceAll 0 p q (drop (i + length p) s)) in
         record { sizes = m .sizes; inside = measuring-fits; less = omega (arith, m .less, m .sizes); same = omega (arith, m .same) }
 
--- `written` stands in the slice d, for the text before i
-pub record Rewriting (p q s d out : List ℕ) (i n : ℕ) : Type 0 where
+-- `written` stands in the slice d from at up to n, for the text before i
+pub record Rewriting (p q s d out : List ℕ) (at i n : ℕ) : Type 0 where
   pub written : List ℕ
   pub some : 0 < length p
-  pub room : length (replaceAll 0 p q s) ≤ length d
+  pub room : at + length (replaceAll 0 p q s) ≤ length d
   pub inside : i ≤ length s
-  pub sized : n ≡ length written
+  pub sized : n ≡ at + length written
   pub same : replaceAll 0 p q s ≡ written ++ replaceAll 0 p q (drop i s)
-  pub done : out ≡ put d 0 written
+  pub done : out ≡ put d at written
   pub long : length out ≡ length d
 
-pub rewriting-start : {p q s d : List ℕ} → (0 < length p) × (length (replaceAll 0 p q s) ≤ length d) → Rewriting p q s d d 0 0
-rewriting-start {p} {q} {s} {d} z =
-    record { written = []; some = z .0; room = z .1; inside = omega arith; sized = refl; same = refl; done = sym (put-nil d 0); long = refl }
+pub rewriting-start : {p q s d : List ℕ} {at : ℕ} → (0 < length p) × (at + length (replaceAll 0 p q s) ≤ length d) → Rewriting p q s d d at 0 at
+rewriting-start {p} {q} {s} {d} {at} z =
+    record { written = []; some = z .0; room = z .1; inside = omega arith; sized = omega arith; same = refl; done = sym (put-nil d at); long = refl }
 
-module _ {p q s d out : List ℕ} {i n : ℕ} (m : Rewriting p q s d out i n) where
-  pub rewriting-end : length s ≤ i → out ≡ put d 0 (replaceAll 0 p q s)
-  rewriting-end h = m .done ∙ ap (put d 0) (sym (m .same ∙ ap (λ (x : List ℕ). m .written ++ x) (replace-end p q s i h) ∙ append-nil (m .written)))
+module _ {p q s d out : List ℕ} {at i n : ℕ} (m : Rewriting p q s d out at i n) where
+  pub rewriting-end : length s ≤ i → (n ≡ at + length (replaceAll 0 p q s)) × (out ≡ put d at (replaceAll 0 p q s))
+  rewriting-end h =
+      let e : m .written ≡ replaceAll 0 p q s = sym (m .same ∙ ap (λ (x : List ℕ). m .written ++ x) (replace-end p q s i h) ∙ append-nil (m .written)) in
+      rw (← e) (m .sized, m .done)
 
   -- one piece more, for the text up to k
   module _ (v : List ℕ) (k : ℕ) (e : replaceAll 0 p q (drop i s) ≡ v ++ replaceAll 0 p q (drop k s)) where
@@ -126,7 +128,7 @@ module _ {p q s d out : List ℕ} {i n : ℕ} (m : Rewriting p q s d out i n) wh
         let f = length-append v (replaceAll 0 p q (drop k s)) in
         omega (arith, m .sized, m .room)
 
-    piece : (w : ℕ) → w ≡ length v → k ≤ length s → {o : List ℕ} → o ≡ put out n v → length o ≡ length out → Rewriting p q s d o k (n + w)
+    piece : (w : ℕ) → w ≡ length v → k ≤ length s → {o : List ℕ} → o ≡ put out n v → length o ≡ length out → Rewriting p q s d o at k (n + w)
     piece w x l u y =
         let a = fits in
         let g = m .sized in
@@ -137,7 +139,7 @@ module _ {p q s d out : List ℕ} {i n : ℕ} (m : Rewriting p q s d out i n) wh
           inside = l;
           sized = omega (arith, length-append (m .written) v);
           same = m .same ∙ ap (λ (z : List ℕ). m .written ++ z) e ∙ sym (append-assoc (m .written) v _);
-          done = u ∙ ap (λ (z : List ℕ). put z n v) (m .done) ∙ put-next d 0 (m .written) v n (omega arith) (omega arith);
+          done = u ∙ ap (λ (z : List ℕ). put z n v) (m .done) ∙ put-next d at (m .written) v n (omega arith) (omega arith);
           long = y ∙ m .long;
         }
 
@@ -148,7 +150,7 @@ module _ {p q s d out : List ℕ} {i n : ℕ} (m : Rewriting p q s d out i n) wh
     pub rewriting-reach : n + (r - i) ≤ length out
     rewriting-reach = omega (arith, rewriting-room, first-length s p i r f)
 
-    pub rewriting-copy : {o : List ℕ} → o ≡ put out n (take (r - i) (drop i s)) → length o ≡ length out → Rewriting p q s d o r (n + (r - i))
+    pub rewriting-copy : {o : List ℕ} → o ≡ put out n (take (r - i) (drop i s)) → length o ≡ length out → Rewriting p q s d o at r (n + (r - i))
     rewriting-copy = piece (take (r - i) (drop i s)) r (replace-first p q s i r f) (r - i) (sym (first-length s p i r f)) (f .high)
 
   module _ (h : startsWith p (drop i s) ≡ true) where
@@ -158,7 +160,7 @@ module _ {p q s d out : List ℕ} {i n : ℕ} (m : Rewriting p q s d out i n) wh
     pub rewriting-fits : n + length q ≤ length out
     rewriting-fits = omega (arith, fits q (i + length p) (replace-hit p q s i (m .some) h), m .long)
 
-    pub rewriting-hit : {o : List ℕ} → o ≡ put out n q → length o ≡ length out → Rewriting p q s d o (i + length p) (n + length q)
+    pub rewriting-hit : {o : List ℕ} → o ≡ put out n q → length o ≡ length out → Rewriting p q s d o at (i + length p) (n + length q)
     rewriting-hit = piece q (i + length p) (replace-hit p q s i (m .some) h) (length q) refl rewriting-inside
 
 -- a shorter text put for another makes no text longer

@@ -11,23 +11,21 @@ use Rattle.lists.specs.Put.{put}
 use Rattle.lists.specs.Run.{run}
 use Rattle.lists.proofs.PutLaws.{put-front}
 use Rattle.lists.proofs.RunLaws.{length-run, run-then, run-same, getD-build}
-use Rattle.model.specs.Limits.{textBytes}
 use Rattle.model.specs.declared.Refusal.{Refusal}
 use Rattle.record.specs.Policy.{Text}
-use Rattle.record.specs.Record.{Table, bytesOf, packed, slotOffset, textOffset, slotsIn, total, encode}
+use Rattle.record.specs.Record.{Table, word, bytesOf, packed, slotOffset, textOffset, slotsIn, total, encode}
 use Rattle.record.specs.Slots.{kindAt, offsetAt, lengthAt, partAt, ofKind, textAt, plainSlots, plainTexts, Parts, Fits}
 use Rattle.record.specs.Written.{begunOf, headed, withTexts}
 use Rattle.record.specs.declared.Begun.the-variants.{Record, NotWritten}
 use Rattle.record.specs.declared.Head.{Head}
 use Rattle.record.proofs.PlainSlots.{plain-kinds, plain-behind, plain-within, length-plain}
 use Rattle.record.proofs.RecordTellsPolicy.{length-encode}
+use Rattle.record.proofs.Steps.{slot-written}
 use Rattle.record.proofs.Texts.{length-packed}
 use Rattle.record.proofs.TotalFits.{total-fits}
 use Rattle.record.proofs.Writing.{with-none, length-with, with-next, text-fits, begun-whole, begun-short, headed-short, standing-start, standing-next, standing-end}
-use Rattle.emphasis.specs.Emphasis.{choiceOf}
-use Rattle.utils.specs.Split.{valuesOf, splitBy, answered, allowedIn}
-use Rattle.utils.specs.declared.Split.{Split}
-use Rattle.utils.proofs.Answers.{allowed-in, split-length, split-fits}
+use Rattle.utils.specs.Split.{valuesOf}
+use Rattle.utils.proofs.Answers.{split-length}
 use Rattle.writer.specs.PartsHeld.{PartsHeld}
 use Rattle.writer.specs.SlotRecord.{tableFrom, recordIn, SlotsHeld}
 use Rattle.writer.specs.SlotTexts.{textOfKind, slotText, textsFrom}
@@ -65,34 +63,30 @@ module _ (bytes d : List ℕ) (i : ℕ) where
       go (suc zero) = part-short
       go (suc (suc k)) = omega (arith, part-short, split-length (partAt bytes d i))
 
--- a slot whose part t is split, so that its allowed values are b
-module _ {bytes d : List ℕ} {room : ℕ} (i : ℕ) (p : PartsHeld bytes d (i + 1) room) (k : 1 < kindAt d i) (t : List ℕ) (et : t ≡ partAt bytes d i) (r : Split) (s b : List ℕ)
-    (ea : answered r t s ≡ splitBy (choiceOf t) t room) (eb : b ≡ allowedIn r t s) where
-  values-text : slotText bytes d i ≡ some b
-  values-text =
-      let l : length t ≤ room = omega (arith, ap length et, part-short bytes d i, p .enough) in
-      let e : b ≡ valuesOf (partAt bytes d i) .allowed = eb ∙ allowed-in r t s (valuesOf t) (ea ∙ split-fits t room l) ∙ rw et in
-      slot-values bytes d i k ∙ rw e
+-- a slot whose text is the allowed values of its part t
+module _ (bytes d : List ℕ) (i : ℕ) (k : 1 < kindAt d i) (t : List ℕ) (et : t ≡ partAt bytes d i) where
+  values-text : slotText bytes d i ≡ some (valuesOf t .allowed)
+  values-text = slot-values bytes d i k ∙ rw et
 
-  pub values-ask : (o n : ℕ) → Fits (slotText bytes d i ∷ []) (i + 1) i o n → (slotOffset + 8 * i + 8 ≤ o) × (o + length b ≤ n) × (o + length b < 2 ^ 32)
-  values-ask o n f = text-fits b (i + 1) i o n (omega arith) (rw values-text at f)
+  -- what writing them asks, and what it leaves
+  module _ (o n : ℕ) (f : Fits (slotText bytes d i ∷ []) (i + 1) i o n) where
+    pub values-ask : (slotOffset + 8 * i + 8 ≤ o) × (o + length (valuesOf t .allowed) ≤ n) × (o + length (valuesOf t .allowed) < 2 ^ 32)
+    values-ask = text-fits (valuesOf t .allowed) (i + 1) i o n (omega arith) (rw values-text at f)
 
-  pub values-left : (x x' : List ℕ) (o o' : ℕ) → (o' ≡ o + length b) × (x' ≡ withTexts x i o (some b ∷ []))
-      → (o' ≡ o + length (bytesOf (slotText bytes d i))) × (x' ≡ withTexts x i o (slotText bytes d i ∷ []))
-  values-left x x' o o' w = rw values-text w
+    pub values-left : (x y z : List ℕ) (e : ℕ) → length x ≡ n → (e ≡ o + length (valuesOf t .allowed)) × (y ≡ put x o (valuesOf t .allowed))
+        → z ≡ put y (slotOffset + 8 * i) (word o ++ word (e - o))
+        → (e ≡ o + length (bytesOf (slotText bytes d i))) × (z ≡ withTexts x i o (slotText bytes d i ∷ []))
+    values-left x y z e l w u =
+        let m : e - o ≡ length (valuesOf t .allowed) = omega (arith, w .0) in
+        let a = values-ask in
+        rw values-text (w .0, slot-written x y z i o (valuesOf t .allowed) (a .0) (omega (arith, a .1)) (w .1) (u ∙ rw m))
 
 -- what `put_parts` asks of the slots, and `write_values` of those up to one of them
-pub held-parts : {bytes d : List ℕ} {c room : ℕ} → PartsHeld bytes d c room → Parts bytes d c
+pub held-parts : {bytes d : List ℕ} {c : ℕ} → PartsHeld bytes d c → Parts bytes d c
 held-parts p = record { room = p .numbers; few = p .few; inside = λ i h k. p .inside i h }
 
-pub held-slots : {bytes d : List ℕ} {c room room' i : ℕ} → PartsHeld bytes d c room → room' ≡ room → i < c → PartsHeld bytes d (i + 1) room'
-held-slots p e h =
-    record {
-      numbers = omega (arith, p .numbers);
-      few = omega (arith, p .few);
-      inside = λ j l. p .inside j (omega arith);
-      enough = omega (arith, p .enough);
-    }
+pub held-slots : {bytes d : List ℕ} {c i : ℕ} → PartsHeld bytes d c → i < c → PartsHeld bytes d (i + 1)
+held-slots p h = record { numbers = omega (arith, p .numbers); few = omega (arith, p .few); inside = λ j l. p .inside j (omega arith) }
 
 -- the writing over x₀ has come to slot i and the offset o: the texts of the slots that are left give the whole
 pub record SlotsTo (bytes d : List ℕ) (c : ℕ) (x₀ x : List ℕ) (i o : ℕ) : Type 0 where
@@ -206,8 +200,8 @@ module _ {h : Head} {bytes d : List ℕ} {c used : ℕ} (s : SlotsHeld h bytes d
       omega (arith, ap (λ (x : Text). length (bytesOf x)) e, slot-short bytes d i, s .short) in
       omega (arith, total-is, total-fits t (omega (arith, s .counted, s .few)) counted short)
 
-  pub slots-held : {room : ℕ} → textBytes ≤ room → PartsHeld bytes d c room
-  slots-held l = record { numbers = s .room; few = s .few; inside = s .inside; enough = omega (arith, s .short) }
+  pub slots-held : PartsHeld bytes d c
+  slots-held = record { numbers = s .room; few = s .few; inside = s .inside }
 
   pub texts-fit : {n : ℕ} → textOffset c + used ≤ n → Fits (textsFrom bytes d 0 c) c 0 (textOffset c) n
   texts-fit l =

@@ -4,9 +4,8 @@ use Prim.Native.Nat.{ℕ, _+_, _*_, _≤_, _<_}
 use lib.ListN.{length}
 use Rattle.record.specs.Slots.{offsetAt, lengthAt, slotLimit}
 
--- c slots, whose parts lie in the bytes, and a slice of `room` bytes has room for all of these
-pub record PartsHeld (bytes d : List ℕ) (c room : ℕ) : Type 0 where
+-- c slots, whose parts lie in the bytes
+pub record PartsHeld (bytes d : List ℕ) (c : ℕ) : Type 0 where
   pub numbers : 3 * c ≤ length d
   pub few : c ≤ slotLimit
   pub inside : (i : ℕ) → i < c → offsetAt d i + lengthAt d i ≤ length bytes
-  pub enough : length bytes ≤ room

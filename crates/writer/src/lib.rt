@@ -6,7 +6,6 @@ ghost use mathlib.Core.List.{[], _∷_};
 ghost use mathlib.Core.Path.{_≡_};
 ghost use Prim.Native.Nat.{_+_, _*_, _≤_, _<_};
 ghost use lib.ListN.{length};
-ghost use Rattle.model.specs.Limits.{textBytes};
 ghost use Rattle.record.specs.Record.{bytesOf, textOffset, total};
 ghost use Rattle.record.specs.Slots.{kindAt, offsetAt, lengthAt, partAt, Fits};
 ghost use Rattle.record.specs.Written.{begunOf, withTexts};
@@ -27,29 +26,22 @@ fn part_of<'a, 'b>(bytes: &'a [u8], slots: &'b [u32], slot: usize) -> &'a [u8]
     &bytes[a..e]
 }
 
-// A slot whose text is the allowed values of its part, which are rewritten in scratch; the offset behind its text.
-fn write_values(
-    bytes: &[u8],
-    slots: &[u32],
-    slot: usize,
-    offset: usize,
-    scratch: &mut [u8],
-    out: &mut [u8],
-) -> usize
-    requires { ⌜ PartsHeld (now bytes) (now slots) (slot + 1) (length (now scratch)) × (1 < kindAt (now slots) slot) ⌝ }
+// A slot whose text is the allowed values of its part; the offset behind its text.
+fn write_values(bytes: &[u8], slots: &[u32], slot: usize, offset: usize, out: &mut [u8]) -> usize
+    requires { ⌜ PartsHeld (now bytes) (now slots) (slot + 1) × (1 < kindAt (now slots) slot) ⌝ }
     requires { ⌜ Fits (slotText (now bytes) (now slots) slot ∷ []) (slot + 1) slot offset (length (now out)) ⌝ }
     ensures { λ r. ⌜ r ≡ offset + length (bytesOf (slotText (now (bytes .entry)) (now (slots .entry)) slot)) ⌝ }
     ensures { λ _. ⌜ now (out .exit) ≡ withTexts (now (out .entry)) slot offset (slotText (now (bytes .entry)) (now (slots .entry)) slot ∷ []) ⌝ }
 {
     let text = part_of(bytes, slots, slot);
-    let s = utils::split_text(text, scratch);
-    let values = utils::allowed_values(text, scratch, s);
-    record::put_text(out, slot, offset, values)
+    let end = utils::put_values(text, out, offset);
+    record::put_slot(out, slot, offset, end - offset);
+    end
 }
 
 // All c slots with their texts.
-fn write_slots(bytes: &[u8], slots: &[u32], c: usize, scratch: &mut [u8], out: &mut [u8])
-    requires { ⌜ PartsHeld (now bytes) (now slots) c (length (now scratch)) ⌝ }
+fn write_slots(bytes: &[u8], slots: &[u32], c: usize, out: &mut [u8])
+    requires { ⌜ PartsHeld (now bytes) (now slots) c ⌝ }
     requires { ⌜ Fits (textsFrom (now bytes) (now slots) 0 c) c 0 (textOffset c) (length (now out)) ⌝ }
     ensures { λ _. ⌜ now (out .exit) ≡ withTexts (now (out .entry)) 0 (textOffset c) (textsFrom (now (bytes .entry)) (now (slots .entry)) 0 c) ⌝ }
 {
@@ -61,7 +53,7 @@ fn write_slots(bytes: &[u8], slots: &[u32], c: usize, scratch: &mut [u8], out: &
         if c <= next {
             return;
         }
-        offset = write_values(bytes, slots, next, r.offset, scratch, out);
+        offset = write_values(bytes, slots, next, r.offset, out);
         slot = next + 1;
     }
 }
@@ -73,16 +65,15 @@ pub fn write_record(
     c: usize,
     used: usize,
     h: Head,
-    scratch: &mut [u8],
     out: &mut [u8],
 ) -> Begun
-    requires { ⌜ SlotsHeld h (now bytes) (now slots) c used × (textBytes ≤ length (now scratch)) ⌝ }
+    requires { ⌜ SlotsHeld h (now bytes) (now slots) c used ⌝ }
     ensures answer { λ r. ⌜ r ≡ begunOf (length (now (out .entry))) (total (tableFrom h (now (bytes .entry)) (now (slots .entry)) c)) ⌝ }
     ensures written { λ _. ⌜ now (out .exit) ≡ recordIn (now (out .entry)) (tableFrom h (now (bytes .entry)) (now (slots .entry)) c) ⌝ }
 {
     match record::begin_record(out, h, c, used) {
         Begun::Record(total) => {
-            write_slots(bytes, slots, c, scratch, out);
+            write_slots(bytes, slots, c, out);
             Begun::Record(total)
         }
         Begun::NotWritten(r) => Begun::NotWritten(r),

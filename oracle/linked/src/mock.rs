@@ -216,8 +216,6 @@ unsafe extern "C" fn fezandimo_read_sheet(
     plane_count: usize,
     bytes: *mut u8,
     byte_count: usize,
-    scratch: *mut u8,
-    scratch_count: usize,
     out: *mut u8,
     out_count: usize,
 ) -> Answer {
@@ -230,7 +228,7 @@ unsafe extern "C" fn fezandimo_read_sheet(
         (spans, span_count),
         (plane, plane_count),
     ];
-    let bytes = [(bytes, byte_count), (scratch, scratch_count)];
+    let bytes = [(bytes, byte_count)];
     let call = unsafe { call(&numbers, &bytes, &SHEET_SIZES, (out, out_count)) };
     let sheet = unsafe { list(sheet, sheet_count) };
     call.end(sheet_answer(sheet).expect("the judge agrees with the Rust").outcome)
@@ -274,8 +272,6 @@ unsafe extern "C" fn fezandimo_read_lent_plane(
     upright_count: usize,
     slots: *mut u32,
     slot_count: usize,
-    scratch: *mut u8,
-    scratch_count: usize,
     out: *mut u8,
     out_count: usize,
 ) -> Answer {
@@ -285,8 +281,7 @@ unsafe extern "C" fn fezandimo_read_lent_plane(
     let lent = unsafe { lent_of(numbers, texts, bytes) };
     let numbers =
         [(plane, plane_count), (spans, span_count), (upright, upright_count), (slots, slot_count)];
-    let scratch = [(scratch, scratch_count)];
-    let call = unsafe { call(&numbers, &scratch, &LENT_SIZES, (out, out_count)) };
+    let call = unsafe { call(&numbers, &[], &LENT_SIZES, (out, out_count)) };
     let answer = plane_answer(&lent, &upright_of(&lent));
     call.end(answer.expect("the judge agrees with the Rust").outcome)
 }

@@ -48,8 +48,6 @@ unsafe extern "C" {
         plane_count: usize,
         bytes: *mut u8,
         byte_count: usize,
-        scratch: *mut u8,
-        scratch_count: usize,
         out: *mut u8,
         out_count: usize,
     ) -> Answer;
@@ -75,8 +73,6 @@ unsafe extern "C" {
         upright_count: usize,
         slots: *mut u32,
         slot_count: usize,
-        scratch: *mut u8,
-        scratch_count: usize,
         out: *mut u8,
         out_count: usize,
     ) -> Answer;
@@ -89,14 +85,13 @@ unsafe extern "C" {
     ) -> SplitAnswer;
 }
 
-/// The least elements of the whole reader's work slices: text, thins, bodies, grid, rects, spans, plane, bytes and scratch.
-pub const SHEET_SIZES: [usize; 9] =
-    [15_360, 15_360, 15_360, 15_360, 4_096, 2_048, 4_160, 61_444, 61_440];
+/// The least elements of the whole reader's work slices: text, thins, bodies, grid, rects, spans, plane and bytes.
+pub const SHEET_SIZES: [usize; 8] = [15_360, 15_360, 15_360, 15_360, 4_096, 2_048, 4_160, 61_444];
 
 /// The whole reader.
 pub fn read_sheet(sheet: &[u8], works: &mut Works, out: &mut Out) -> Answer {
     let [text, thins, bodies, grid, rects, spans, plane] = works.numbers();
-    let [bytes, scratch] = works.bytes();
+    let [bytes] = works.bytes();
     let out = out.raw();
     unsafe {
         fezandimo_read_sheet(
@@ -118,8 +113,6 @@ pub fn read_sheet(sheet: &[u8], works: &mut Works, out: &mut Out) -> Answer {
             plane.1,
             bytes.0,
             bytes.1,
-            scratch.0,
-            scratch.1,
             out.0,
             out.1,
         )
@@ -136,13 +129,12 @@ pub struct Lists<'a> {
     pub bytes: &'a [u8],
 }
 
-/// The least elements of the work slices for a lent plane: plane, spans, upright, slots and scratch.
-pub const LENT_SIZES: [usize; 5] = [4_160, 2_048, 4_160, 12_480, 61_440];
+/// The least elements of the work slices for a lent plane: plane, spans, upright and slots.
+pub const LENT_SIZES: [usize; 4] = [4_160, 2_048, 4_160, 12_480];
 
 /// The table of a lent plane.
 pub fn read_lent_plane(lent: &Lists, works: &mut Works, out: &mut Out) -> Answer {
     let [plane, spans, upright, slots] = works.numbers();
-    let [scratch] = works.bytes();
     let out = out.raw();
     unsafe {
         fezandimo_read_lent_plane(
@@ -166,8 +158,6 @@ pub fn read_lent_plane(lent: &Lists, works: &mut Works, out: &mut Out) -> Answer
             upright.1,
             slots.0,
             slots.1,
-            scratch.0,
-            scratch.1,
             out.0,
             out.1,
         )

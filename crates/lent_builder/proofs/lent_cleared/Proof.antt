@@ -12,23 +12,23 @@ use Rattle.lent_builder.proofs.lent_cleared.Statement.{statement}
 use Rattle.lent_builder.proofs.lent_cleared.Tie as tie
 
 -- the record that was made, by its places
-abbrev made : tie.After-slice-known17 → tie.After-lent-record
-made c = c .before .before .before .before .before .before .before .before .before .before .before .before .before .before .before .before .before .before .before .before .before .before .before .before .before .before .before .before .before
+abbrev made : tie.After-slice-known14 → tie.After-lent-record
+made c = c .before .before .before .before .before .before .before .before .before .before .before .before .before .before .before .before .before .before .before .before .before .before .before
 
-abbrev start : tie.After-slice-known17 → tie.Start
-start c = made c .before .before .before .before .before .before .before .before .before .before .before .before .before .before .before .before .before .before .before
+abbrev start : tie.After-slice-known14 → tie.Start
+start c = made c .before .before .before .before .before .before .before .before .before .before .before .before .before .before .before .before .before
 
 abbrev before : tie.Start → List (List ℕ)
-before s = s .args .plane .now ∷ s .args .spans .now ∷ s .args .upright .now ∷ s .args .slots .now ∷ s .args .scratch .now ∷ []
+before s = s .args .plane .now ∷ s .args .spans .now ∷ s .args .upright .now ∷ s .args .slots .now ∷ []
 
-abbrev after : tie.After-slice-known17 → List (List ℕ)
-after c = c .before .before .before .before .before .before .before .before .before .before .before .before .clear-four .last .0 ∷ c .before .before .before .before .before .before .before .before .before .before .before .before .clear-four .last .1 .0 ∷ c .before .before .before .before .before .before .before .before .before .before .before .before .clear-four .last .1 .1 .0 ∷ c .before .before .before .before .before .before .before .before .before .before .before .before .clear-four .last .1 .1 .1 .0 ∷ c .before .before .clear-u8 .last .0 ∷ []
+abbrev after : tie.After-slice-known14 → List (List ℕ)
+after c = c .before .before .before .before .before .before .before .before .clear-four .last .0 ∷ c .before .before .before .before .before .before .before .before .clear-four .last .1 .0 ∷ c .before .before .before .before .before .before .before .before .clear-four .last .1 .1 .0 ∷ c .before .before .before .before .before .before .before .before .clear-four .last .1 .1 .1 .0 ∷ []
 
-gone : (c : tie.After-slice-known17) → Cleared (after c) (before (start c))
+gone : (c : tie.After-slice-known14) → Cleared (after c) (before (start c))
 gone c =
     let r = made c .lent-record in
     let s = start c .args in
-    one (c .before .before .before .before .before .before .before .before .before .before .before .before .clear-four .ensures .0 ∙ zeros-same (r .last .1 .1 .1 .1 .1 .1 .0) (s .plane .now) (r .kept .1 .1 .1 .1 .1 .1 .0)) (one (c .before .before .before .before .before .before .before .before .before .before .before .before .clear-four .ensures .1 ∙ zeros-same (r .last .1 .1 .1 .1 .1 .1 .1 .0) (s .spans .now) (r .kept .1 .1 .1 .1 .1 .1 .1 .0)) (one (c .before .before .before .before .before .before .before .before .before .before .before .before .clear-four .ensures .2 ∙ zeros-same (r .last .1 .1 .1 .1 .1 .1 .1 .1 .0) (s .upright .now) (r .kept .1 .1 .1 .1 .1 .1 .1 .1 .0)) (one (c .before .before .before .before .before .before .before .before .before .before .before .before .clear-four .ensures .3 ∙ zeros-same (r .last .1 .1 .1 .1 .1 .1 .1 .1 .1 .0) (s .slots .now) (r .kept .1 .1 .1 .1 .1 .1 .1 .1 .1 .0)) (one (c .before .before .clear-u8 .ensures ∙ zeros-same (r .last .1 .1 .1 .1 .1 .1 .1 .1 .1 .1 .0) (s .scratch .now) (r .kept .1 .1 .1 .1 .1 .1 .1 .1 .1 .1 .0)) (none)))))
+    one (c .before .before .before .before .before .before .before .before .clear-four .ensures .0 ∙ zeros-same (r .last .1 .1 .1 .1 .1 .1 .0) (s .plane .now) (r .kept .1 .1 .1 .1 .1 .1 .0)) (one (c .before .before .before .before .before .before .before .before .clear-four .ensures .1 ∙ zeros-same (r .last .1 .1 .1 .1 .1 .1 .1 .0) (s .spans .now) (r .kept .1 .1 .1 .1 .1 .1 .1 .0)) (one (c .before .before .before .before .before .before .before .before .clear-four .ensures .2 ∙ zeros-same (r .last .1 .1 .1 .1 .1 .1 .1 .1 .0) (s .upright .now) (r .kept .1 .1 .1 .1 .1 .1 .1 .1 .0)) (one (c .before .before .before .before .before .before .before .before .clear-four .ensures .3 ∙ zeros-same (r .last .1 .1 .1 .1 .1 .1 .1 .1 .1 .0) (s .slots .now) (r .kept .1 .1 .1 .1 .1 .1 .1 .1 .1 .0)) (none))))
 
 abbrev lent : tie.Start → LentPlane
 lent s =
@@ -37,15 +37,12 @@ lent s =
 
 lent-record-requires : tie.Need-lent-record-requires
 lent-record-requires c κs =
-    let s = c .before .before .before .before .before .before .before .before .before .before .before .before .before .before .before .before .before .before in
+    let s = c .before .before .before .before .before .before .before .before .before .before .before .before .before .before .before .before in
     let a = s .args in
-    lent-room (a .plane .now) (a .spans .now) (a .upright .now) (a .slots .now) (a .scratch .now) (s .pre)
+    lent-room (a .plane .now) (a .spans .now) (a .upright .now) (a .slots .now) (s .pre)
 
 clear-four-requires : tie.Need-clear-four-requires
 clear-four-requires c κs = search needs
-
-clear-u8-requires : tie.Need-clear-u8-requires
-clear-u8-requires c κs = search needs
 
 same-length : tie.Need-same-length
 same-length c = search needs
@@ -62,14 +59,11 @@ same-length-4 c = search needs
 same-length-5 : tie.Need-same-length-5
 same-length-5 c = search needs
 
-same-length-6 : tie.Need-same-length-6
-same-length-6 c = search needs
-
 returns : tie.Need-returns
 returns c =
     let r = made c .lent-record in
     let s = start c in
-    end-cleared lentSizes (lentPolicy (lent s)) (before s) (after c) (s .args .out .now) (r .last .1 .1 .1 .1 .1 .1 .1 .1 .1 .1 .1 .0) (r .result) (s .pre) (r .ensures .0) (r .ensures .1) (cleared-all (gone c))
+    end-cleared lentSizes (lentPolicy (lent s)) (before s) (after c) (s .args .out .now) (r .last .1 .1 .1 .1 .1 .1 .1 .1 .1 .1 .0) (r .result) (s .pre) (r .ensures .0) (r .ensures .1) (cleared-all (gone c))
 
 pub lent-cleared-spec : {M : Type 1} → statement M
 lent-cleared-spec =
@@ -77,11 +71,9 @@ lent-cleared-spec =
     (tie.spec
     lent-record-requires
     clear-four-requires
-    clear-u8-requires
     same-length
     same-length-2
     same-length-3
     same-length-4
     same-length-5
-    same-length-6
     returns)

@@ -12,7 +12,7 @@ use Rattle.lent_builder.proofs.read_lent_plane.Statement.{statement}
 use Rattle.lent_builder.proofs.read_lent_plane.Tie as tie
 
 abbrev works : tie.Start → List (List ℕ)
-works s = s .args .plane .now ∷ s .args .spans .now ∷ s .args .upright .now ∷ s .args .slots .now ∷ s .args .scratch .now ∷ []
+works s = s .args .plane .now ∷ s .args .spans .now ∷ s .args .upright .now ∷ s .args .slots .now ∷ []
 
 abbrev lent : tie.Start → LentPlane
 lent s =
@@ -33,37 +33,34 @@ enum-told c = search needs
 
 lent-cleared-requires : tie.Need-lent-cleared-requires
 lent-cleared-requires c κs =
-    let w = c .before .before .before .before .before .before .before .before in
-    sym (w .work-slices .ensures) ∙ ap roomIn (c .before .before .before .before .before .before .enum-told .given .1)
+    let w = c .before .before .before .before .before .before .before in
+    sym (w .work-slices .ensures) ∙ ap roomIn (c .before .before .before .before .before .enum-told .given .1)
 
 enum-known-r : tie.Need-enum-known-r
 enum-known-r c = search needs
 
 same-length : tie.Need-same-length
-same-length c = c .before .before .before .before .before .before .before .before .before .before .before .before .lent-cleared .kept .1 .1 .1 .1 .1 .1 .0
+same-length c = c .before .before .before .before .before .before .before .before .before .before .lent-cleared .kept .1 .1 .1 .1 .1 .1 .0
 
 same-length-2 : tie.Need-same-length-2
-same-length-2 c = c .before .before .before .before .before .before .before .before .before .before .before .before .lent-cleared .kept .1 .1 .1 .1 .1 .1 .1 .0
+same-length-2 c = c .before .before .before .before .before .before .before .before .before .before .lent-cleared .kept .1 .1 .1 .1 .1 .1 .1 .0
 
 same-length-3 : tie.Need-same-length-3
-same-length-3 c = c .before .before .before .before .before .before .before .before .before .before .before .before .lent-cleared .kept .1 .1 .1 .1 .1 .1 .1 .1 .0
+same-length-3 c = c .before .before .before .before .before .before .before .before .before .before .lent-cleared .kept .1 .1 .1 .1 .1 .1 .1 .1 .0
 
 same-length-4 : tie.Need-same-length-4
-same-length-4 c = c .before .before .before .before .before .before .before .before .before .before .before .before .lent-cleared .kept .1 .1 .1 .1 .1 .1 .1 .1 .1 .0
+same-length-4 c = c .before .before .before .before .before .before .before .before .before .before .lent-cleared .kept .1 .1 .1 .1 .1 .1 .1 .1 .1 .0
 
 same-length-5 : tie.Need-same-length-5
-same-length-5 c = c .before .before .before .before .before .before .before .before .before .before .before .before .lent-cleared .kept .1 .1 .1 .1 .1 .1 .1 .1 .1 .1 .0
-
-same-length-6 : tie.Need-same-length-6
-same-length-6 c = c .before .before .before .before .before .before .before .before .before .before .before .before .lent-cleared .kept .1 .1 .1 .1 .1 .1 .1 .1 .1 .1 .1 .0
+same-length-5 c = c .before .before .before .before .before .before .before .before .before .before .lent-cleared .kept .1 .1 .1 .1 .1 .1 .1 .1 .1 .1 .0
 
 returns : tie.Need-returns
 returns c =
-    c .before .before .before .before .before .before .before .before .before .before .before .before .lent-cleared .ensures
+    c .before .before .before .before .before .before .before .before .before .before .lent-cleared .ensures
 
 returns-2 : tie.Need-returns-2
 returns-2 c =
-    let s = c .before .before .before .before .before .before .before .before .before .before .before .before .before .before .before .before .before .before in
+    let s = c .before .before .before .before .before .before .before .before .before .before .before .before .before .before .before .before .before in
     end-short lentSizes (lentPolicy (lent s)) (works s) (s .args .out .now) _ (ap roomIn (sym (c .before .r .given .1)) ∙ c .before .before .before .work-slices .ensures)
 
 pub read-lent-plane-spec : {M : Type 1} → statement M
@@ -81,6 +78,5 @@ read-lent-plane-spec =
     same-length-3
     same-length-4
     same-length-5
-    same-length-6
     returns
     returns-2)

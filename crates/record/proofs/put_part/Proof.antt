@@ -13,8 +13,8 @@ mul-if1-2 c = search needs
 shared-slice-read-if1 : tie.Need-shared-slice-read-if1
 shared-slice-read-if1 c = search needs
 
-put-absent-requires : tie.Need-put-absent-requires
-put-absent-requires c κs = search needs
+put-slot-requires : tie.Need-put-slot-requires
+put-slot-requires c κs = search needs
 
 same-length : tie.Need-same-length
 same-length c = search needs
@@ -22,7 +22,7 @@ same-length c = search needs
 returns : tie.Need-returns
 returns c =
     let wrote = c .before .before in
-    absent-part _ _ _ _ _ _ (wrote .before .before .if1 .taken) (wrote .put-absent .ensures)
+    absent-part _ _ _ _ _ _ (wrote .before .before .if1 .taken) (wrote .put-slot .ensures)
 
 mul-wide : tie.Need-mul-wide
 mul-wide c = search needs
@@ -90,7 +90,7 @@ put-part-spec =
     mul-if1
     mul-if1-2
     shared-slice-read-if1
-    put-absent-requires
+    put-slot-requires
     same-length
     returns
     mul-wide

@@ -13,8 +13,8 @@ enum-known-a c = search needs
 
 write-table-requires : tie.Need-write-table-requires
 write-table-requires c κs =
-    let s = c .before .before .before .before .before .before .before .before .before in
-    (subst (λ (x : Recognized). AnswerHeld x (s .args .bytes .now) (s .args .slots .now)) (c .before .before .before .a .given .1) (s .pre .0), s .pre .1, s .pre .2)
+    let s = c .before .before .before .before .before .before .before in
+    (subst (λ (x : Recognized). AnswerHeld x (s .args .bytes .now) (s .args .slots .now)) (c .before .before .a .given .1) (s .pre .0), s .pre .1)
 
 enum-known-a-2 : tie.Need-enum-known-a-2
 enum-known-a-2 c = search needs
@@ -22,20 +22,17 @@ enum-known-a-2 c = search needs
 same-length : tie.Need-same-length
 same-length c = search needs
 
-same-length-2 : tie.Need-same-length-2
-same-length-2 c = search needs
-
 returns : tie.Need-returns
 returns c =
-    let w = c .before .before .before .before .write-table .ensures in
-    let k = c .before .before .before .before .before .before .before .before in
-    let s = k .before .before .before .before .before .before .args in
+    let w = c .before .before .write-table .ensures in
+    let k = c .before .before .before .before .before in
+    let s = k .before .before .before .before .before .args in
     let e = sym (k .a .given .1) in
     (w .0 ∙ ap (λ (x : Recognized). outcomeOf (namedTable x (s .bytes .now) (s .slots .now)) (length (s .out .now))) e, w .1 ∙ ap (λ (x : Recognized). recordOf (namedTable x (s .bytes .now) (s .slots .now)) (s .out .now)) e)
 
 returns-2 : tie.Need-returns-2
 returns-2 c =
-    let s = c .before .before .before .before .before .before .before .args in
+    let s = c .before .before .before .before .before .before .args in
     let e = sym (c .before .a2 .given .1) in
     (ap (λ (x : Recognized). outcomeOf (namedTable x (s .bytes .now) (s .slots .now)) (length (s .out .now))) e, ap (λ (x : Recognized). recordOf (namedTable x (s .bytes .now) (s .slots .now)) (s .out .now)) e)
 
@@ -47,6 +44,5 @@ write-recognized-spec =
     write-table-requires
     enum-known-a-2
     same-length
-    same-length-2
     returns
     returns-2)

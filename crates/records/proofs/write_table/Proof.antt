@@ -7,7 +7,7 @@ use Rattle.records.proofs.write_table.Statement.{statement}
 use Rattle.records.proofs.write_table.Tie as tie
 
 abbrev start : tie.After-struct-known4 → tie.Start
-start c = c .before .before .before .before .before .before .before .before .before .before
+start c = c .before .before .before .before .before .before .before .before .before
 
 -- the header that was made
 abbrev head : tie.After-struct-known4 → Head
@@ -24,6 +24,9 @@ policy-number-requires c κs = search needs
 orientation-number-requires : tie.Need-orientation-number-requires
 orientation-number-requires c κs = search needs
 
+cast-t12 : tie.Need-cast-t12
+cast-t12 c = search needs
+
 cast-t13 : tie.Need-cast-t13
 cast-t13 c = search needs
 
@@ -33,14 +36,11 @@ cast-t14 c = search needs
 cast-t15 : tie.Need-cast-t15
 cast-t15 c = search needs
 
-cast-t16 : tie.Need-cast-t16
-cast-t16 c = search needs
-
 write-record-requires : tie.Need-write-record-requires
 write-record-requires c κs =
-    let k = c .before .before in
+    let k = c .before in
     let p = start k .pre in
-    (slots-held (head k) (p .0) (p .1) (heads k), p .2)
+    slots-held (head k) (p .0) (p .1) (heads k)
 
 enum-known-total : tie.Need-enum-known-total
 enum-known-total c = search needs
@@ -51,26 +51,20 @@ enum-known-r c = search needs
 same-length : tie.Need-same-length
 same-length c = search needs
 
-same-length-2 : tie.Need-same-length-2
-same-length-2 c = search needs
-
 returns : tie.Need-returns
 returns c =
-    let w = c .before .before .before .before .before .before .before in
-    let k = w .before .before .before in
+    let w = c .before .before .before .before .before in
+    let k = w .before .before in
     let s = start k .args in
     (head-total (s .bytes .now) (s .slots .now) _ _ (heads k) (sym (c .before .total .given .1) ∙ w .write-record .ensures .0), w .write-record .ensures .1 ∙ head-record (s .bytes .now) (s .slots .now) (s .out .now) (heads k))
 
-same-length-3 : tie.Need-same-length-3
-same-length-3 c = search needs
-
-same-length-4 : tie.Need-same-length-4
-same-length-4 c = search needs
+same-length-2 : tie.Need-same-length-2
+same-length-2 c = search needs
 
 returns-2 : tie.Need-returns-2
 returns-2 c =
-    let w = c .before .before .before .before .before .before .before in
-    let k = w .before .before .before in
+    let w = c .before .before .before .before .before in
+    let k = w .before .before in
     let s = start k .args in
     (head-total (s .bytes .now) (s .slots .now) _ _ (heads k) (sym (c .before .r .given .1) ∙ w .write-record .ensures .0), w .write-record .ensures .1 ∙ head-record (s .bytes .now) (s .slots .now) (s .out .now) (heads k))
 
@@ -80,16 +74,14 @@ write-table-spec =
     (tie.spec
     policy-number-requires
     orientation-number-requires
+    cast-t12
     cast-t13
     cast-t14
     cast-t15
-    cast-t16
     write-record-requires
     enum-known-total
     enum-known-r
     same-length
-    same-length-2
     returns
-    same-length-3
-    same-length-4
+    same-length-2
     returns-2)

@@ -9,10 +9,10 @@ use Rattle.utils.proofs.rewrite.Statement.{statement}
 use Rattle.utils.proofs.rewrite.Tie as tie
 
 abbrev Inv-loop : tie.InvT-loop
-Inv-loop s p q t n out₀ i₀ at₀ out i at = Rewriting p q s out₀ out i at
+Inv-loop s p q t n out₀ at i₀ end₀ out i end = Rewriting p q s out₀ out at i end
 
 abbrev μ-loop : tie.MeasureT-loop
-μ-loop s p q t n out₀ i₀ at₀ out i at = length s - i
+μ-loop s p q t n out₀ at i₀ end₀ out i end = length s - i
 
 loop-holds : tie.Need-loop-holds Inv-loop μ-loop
 loop-holds c = rewriting-start (c .before .before .before .before .before .pre .0)
@@ -32,11 +32,11 @@ part-put-bytes-end c = search needs
 put-bytes-requires : tie.Need-put-bytes-requires Inv-loop μ-loop
 put-bytes-requires c κs = rewriting-room (c .before .before .before .before .loop .inv) (c .before .before .find .ensures)
 
-sub-at : tie.Need-sub-at Inv-loop μ-loop
-sub-at c = search needs
+sub-end : tie.Need-sub-end Inv-loop μ-loop
+sub-end c = search needs
 
-add-at : tie.Need-add-at Inv-loop μ-loop
-add-at c =
+add-end : tie.Need-add-end Inv-loop μ-loop
+add-end c =
     let w = c .before .before .before .before .before .before .before in
     omega (arith, rewriting-reach (w .loop .inv) (c .before .before .before .before .before .find .ensures), w .loop .inv .long, w .before .before .before .before .before .before .good)
 
@@ -61,8 +61,8 @@ put-bytes-requires-2 c κs =
     let m = rewriting-copy (p .before .before .before .before .before .loop .inv) f (p .put-bytes .ensures) (p .put-bytes .kept .0) in
     rewriting-fits m (found-here f (c .before .if1 .left))
 
-add-at-2 : tie.Need-add-at-2 Inv-loop μ-loop
-add-at-2 c =
+add-end-2 : tie.Need-add-end-2 Inv-loop μ-loop
+add-end-2 c =
     let p = c .before .before .before .before .before .before .before in
     let f = p .before .before .before .find .ensures in
     let m = rewriting-copy (p .before .before .before .before .before .loop .inv) f (p .put-bytes .ensures) (p .put-bytes .kept .0) in
@@ -107,12 +107,12 @@ rewrite-spec =
     part-put-bytes-start
     part-put-bytes-end
     put-bytes-requires
-    sub-at
-    add-at
+    sub-end
+    add-end
     same-length
     returns
     put-bytes-requires-2
-    add-at-2
+    add-end-2
     add-i
     loop-less
     loop-again

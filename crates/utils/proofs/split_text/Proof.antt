@@ -96,7 +96,7 @@ returns-2 : tie.Need-returns-2
 returns-2 c =
     let m = c .before .before .before .before .before .before .before .before in
     let f = m .before .before .before .before .before .before .before .before .before in
-    answer-rewritten (f .first-marked .ensures) (scratch f) (m .before .before .before .before .before .before .before .before .if1 .taken) (m .measure .ensures) (c .before .before .before .before .before .before .before .if2 .left) (c .before .before .rewrite .ensures)
+    answer-rewritten (f .first-marked .ensures) (scratch f) (m .before .before .before .before .before .before .before .before .if1 .taken) (m .measure .ensures) (c .before .before .before .before .before .before .before .if2 .left) (c .before .before .rewrite .ensures .1)
 
 returns-3 : tie.Need-returns-3
 returns-3 c = answer-own (c .before .first-marked .ensures) (scratch (c .before)) (c .if1 .left)

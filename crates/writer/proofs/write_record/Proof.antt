@@ -7,16 +7,16 @@ use Rattle.writer.proofs.write_record.Statement.{statement}
 use Rattle.writer.proofs.write_record.Tie as tie
 
 begin-record-requires : tie.Need-begin-record-requires
-begin-record-requires c κs = record-small (c .before .before .before .before .before .pre .0)
+begin-record-requires c κs = record-small (c .before .before .before .before .pre)
 
 enum-known-total : tie.Need-enum-known-total
 enum-known-total c = search needs
 
 write-slots-requires : tie.Need-write-slots-requires
 write-slots-requires c κs =
-    let pre = c .before .before .before .before .before .before .before .before .before .before .before .before .before .pre in
-    let begun = c .before .before .before .before .before .before .before .begin-record .ensures in
-    (slots-held (pre .0) (pre .1), texts-fit (pre .0) (omega (arith, record-room (pre .0) (c .before .before .before .before .before .before .before .before .before .before .before .before .before .args .out .now) _ (sym (c .before .before .before .total .given .1) ∙ begun .0))))
+    let first = c .before .before .before .before .before .before .before .before .before .before .before in
+    let begun = c .before .before .before .before .before .before .begin-record .ensures in
+    (slots-held (first .pre), texts-fit (first .pre) (omega (arith, record-room (first .pre) (first .args .out .now) _ (sym (c .before .before .total .given .1) ∙ begun .0))))
 
 enum-known-r : tie.Need-enum-known-r
 enum-known-r c = search needs
@@ -24,23 +24,20 @@ enum-known-r c = search needs
 same-length : tie.Need-same-length
 same-length c = search needs
 
+returns : tie.Need-returns
+returns c =
+    let first = c .before .before .before .before .before .before .before .before .before .before .before .before .before .before in
+    let begun = c .before .before .before .before .before .before .before .before .before .begin-record .ensures in
+    record-whole (first .pre) (first .args .out .now) _ (begun .1) _ _ (sym (c .before .before .before .before .before .total .given .1) ∙ begun .0) (c .before .before .write-slots .ensures)
+
 same-length-2 : tie.Need-same-length-2
 same-length-2 c = search needs
 
-returns : tie.Need-returns
-returns c =
-    let pre = c .before .before .before .before .before .before .before .before .before .before .before .before .before .before .before .before .before .before .pre in
-    let begun = c .before .before .before .before .before .before .before .before .before .before .before .before .begin-record .ensures in
-    record-whole (pre .0) (c .before .before .before .before .before .before .before .before .before .before .before .before .before .before .before .before .before .before .args .out .now) _ (begun .1) _ _ (sym (c .before .before .before .before .before .before .before .before .total .given .1) ∙ begun .0) (c .before .before .before .before .write-slots .ensures)
-
-same-length-3 : tie.Need-same-length-3
-same-length-3 c = search needs
-
 returns-2 : tie.Need-returns-2
 returns-2 c =
-    let pre = c .before .before .before .before .before .before .before .before .before .before .before .pre in
+    let first = c .before .before .before .before .before .before .before .before .before .before in
     let begun = c .before .before .before .before .before .begin-record .ensures in
-    record-short (pre .0) (c .before .before .before .before .before .before .before .before .before .before .before .args .out .now) _ (begun .1) _ (sym (c .before .r .given .1) ∙ begun .0)
+    record-short (first .pre) (first .args .out .now) _ (begun .1) _ (sym (c .before .r .given .1) ∙ begun .0)
 
 pub write-record-spec : {M : Type 1} → statement M
 write-record-spec =
@@ -51,7 +48,6 @@ write-record-spec =
     write-slots-requires
     enum-known-r
     same-length
-    same-length-2
     returns
-    same-length-3
+    same-length-2
     returns-2)
