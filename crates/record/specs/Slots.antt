@@ -1,4 +1,4 @@
--- Slots in a work slice, three numbers each: kind, offset, length. Kind 0 is absent, 1 a part of the texts; a slot of any other kind has its bytes handed over by the caller.
+-- Slots in a work slice, three numbers each: kind, offset, length. Kind 0 is absent, 1 a part of the texts; the text of a slot of any other kind is written by the caller.
 use mathlib.Core.List.{List}
 use mathlib.Core.Option.{none, some}
 use Prim.Native.Nat.{ℕ, zero, suc, _+_, _-_, _*_, _^_, _≤_, _<_}
@@ -32,12 +32,12 @@ ofKind (suc k) b = some b
 unfoldable pub textAt : List ℕ → List ℕ → ℕ → Text
 textAt s d i = ofKind (kindAt d i) (partAt s d i)
 
--- the slots from i on, of n, up to the first whose bytes are handed over
+-- the slots from i on, of n, up to the first whose text the caller writes
 unfoldable pub plainSlots : List ℕ → ℕ → ℕ → ℕ
 plainSlots d i zero = 0
 plainSlots d i (suc n) = choose (ltb 1 (kindAt d i)) 0 (suc (plainSlots d (suc i) n))
 
--- the texts of the slots from i on, of c, up to the first whose bytes are handed over
+-- the texts of the slots from i on, of c, up to the first whose text the caller writes
 abbrev pub plainTexts : List ℕ → List ℕ → ℕ → ℕ → List Text
 plainTexts s d i c = run (textAt s d) i (plainSlots d i (c - i))
 

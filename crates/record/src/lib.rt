@@ -146,7 +146,7 @@ fn put_part(
     put_text(out, slot, offset, part(texts, a, n))
 }
 
-// The slots from one on, of so many, up to the first whose bytes the caller hands over; with their texts.
+// The slots from one on, of so many, up to the first whose text the caller writes; with their texts.
 pub fn put_parts(
     out: &mut [u8],
     slots: &[u32],

@@ -86,8 +86,7 @@ unsafe extern "C" {
 }
 
 /// The least elements of the whole reader's work slices: text, thins, bodies, grid, rects, spans, plane and bytes.
-pub const SHEET_SIZES: [usize; 8] =
-    [15_360, 15_360, 15_360, 15_360, 4_096, 2_048, 4_160, 61_444];
+pub const SHEET_SIZES: [usize; 8] = [15_360, 15_360, 15_360, 15_360, 4_096, 2_048, 4_160, 61_444];
 
 /// The whole reader.
 pub fn read_sheet(sheet: &[u8], works: &mut Works, out: &mut Out) -> Answer {
