@@ -27,9 +27,9 @@ pub enum Lines {
     Crossing,
 }
 
-// Light characters, with the one that is searched first.
-fn light(searched: u64, wanted: u32, allowed: u64) -> Characters
-    ensures { λ r. ⌜ r ≡ record { searched = record { light = searched; double = 0 }; wanted = wanted; allowed = record { light = allowed; double = 0 } } ⌝ }
+// Light characters, with the one that is searched first and the one of the line.
+fn light(searched: u64, wanted: u32, allowed: u64, line: u32) -> Characters
+    ensures { λ r. ⌜ r ≡ record { searched = record { light = searched; double = 0 }; wanted = wanted; allowed = record { light = allowed; double = 0 }; line = line } ⌝ }
 {
     Characters {
         searched: Set {
@@ -41,12 +41,13 @@ fn light(searched: u64, wanted: u32, allowed: u64) -> Characters
             light: allowed,
             double: 0,
         },
+        line,
     }
 }
 
-// Double characters, with the one that is searched first.
-fn double(searched: u64, wanted: u32, allowed: u64) -> Characters
-    ensures { λ r. ⌜ r ≡ record { searched = record { light = 0; double = searched }; wanted = wanted; allowed = record { light = 0; double = allowed } } ⌝ }
+// Double characters, with the one that is searched first and the one of the line.
+fn double(searched: u64, wanted: u32, allowed: u64, line: u32) -> Characters
+    ensures { λ r. ⌜ r ≡ record { searched = record { light = 0; double = searched }; wanted = wanted; allowed = record { light = 0; double = allowed }; line = line } ⌝ }
 {
     Characters {
         searched: Set {
@@ -58,6 +59,7 @@ fn double(searched: u64, wanted: u32, allowed: u64) -> Characters
             light: 0,
             double: allowed,
         },
+        line,
     }
 }
 
@@ -66,10 +68,10 @@ fn region(d: Direction) -> Characters
     ensures { λ r. ⌜ Sought r (searchedOf Region d) (allowedOf Region d) ⌝ }
 {
     match d {
-        Direction::Right => light(TOP_RIGHT, LIGHT_DOWN_AND_LEFT, TOP),
-        Direction::Down => light(BOTTOM_RIGHT, LIGHT_UP_AND_LEFT, RIGHT),
-        Direction::Left => light(BOTTOM_LEFT, LIGHT_UP_AND_RIGHT, BOTTOM),
-        Direction::Up => light(TOP_LEFT, LIGHT_DOWN_AND_RIGHT, LEFT),
+        Direction::Right => light(TOP_RIGHT, LIGHT_DOWN_AND_LEFT, TOP, LIGHT_HORIZONTAL),
+        Direction::Down => light(BOTTOM_RIGHT, LIGHT_UP_AND_LEFT, RIGHT, LIGHT_VERTICAL),
+        Direction::Left => light(BOTTOM_LEFT, LIGHT_UP_AND_RIGHT, BOTTOM, LIGHT_HORIZONTAL),
+        Direction::Up => light(TOP_LEFT, LIGHT_DOWN_AND_RIGHT, LEFT, LIGHT_VERTICAL),
     }
 }
 
@@ -78,10 +80,30 @@ fn rectangle(d: Direction) -> Characters
     ensures { λ r. ⌜ Sought r (searchedOf Rectangle d) (allowedOf Rectangle d) ⌝ }
 {
     match d {
-        Direction::Right => light(TOP_RIGHT, LIGHT_VERTICAL_AND_HORIZONTAL, ROW),
-        Direction::Down => light(BOTTOM_RIGHT, LIGHT_VERTICAL_AND_HORIZONTAL, COLUMN),
-        Direction::Left => light(BOTTOM_LEFT, LIGHT_VERTICAL_AND_HORIZONTAL, ROW),
-        Direction::Up => light(TOP_LEFT, LIGHT_VERTICAL_AND_HORIZONTAL, COLUMN),
+        Direction::Right => light(
+            TOP_RIGHT,
+            LIGHT_VERTICAL_AND_HORIZONTAL,
+            ROW,
+            LIGHT_HORIZONTAL,
+        ),
+        Direction::Down => light(
+            BOTTOM_RIGHT,
+            LIGHT_VERTICAL_AND_HORIZONTAL,
+            COLUMN,
+            LIGHT_VERTICAL,
+        ),
+        Direction::Left => light(
+            BOTTOM_LEFT,
+            LIGHT_VERTICAL_AND_HORIZONTAL,
+            ROW,
+            LIGHT_HORIZONTAL,
+        ),
+        Direction::Up => light(
+            TOP_LEFT,
+            LIGHT_VERTICAL_AND_HORIZONTAL,
+            COLUMN,
+            LIGHT_VERTICAL,
+        ),
     }
 }
 
@@ -99,6 +121,7 @@ fn name_bottom() -> Characters
             light: NAME_BOTTOM,
             double: NAME_BOTTOM_DOUBLE,
         },
+        line: LIGHT_HORIZONTAL,
     }
 }
 
@@ -107,10 +130,15 @@ fn name(d: Direction) -> Characters
     ensures { λ r. ⌜ Sought r (searchedOf Name d) (allowedOf Name d) ⌝ }
 {
     match d {
-        Direction::Right => light(NAME_TOP_RIGHT, LIGHT_DOWN_AND_LEFT, ROW),
-        Direction::Down => light(NAME_BOTTOM_RIGHT, LIGHT_UP_AND_HORIZONTAL, COLUMN),
+        Direction::Right => light(NAME_TOP_RIGHT, LIGHT_DOWN_AND_LEFT, ROW, LIGHT_HORIZONTAL),
+        Direction::Down => light(
+            NAME_BOTTOM_RIGHT,
+            LIGHT_UP_AND_HORIZONTAL,
+            COLUMN,
+            LIGHT_VERTICAL,
+        ),
         Direction::Left => name_bottom(),
-        Direction::Up => light(NAME_TOP_LEFT, LIGHT_DOWN_AND_RIGHT, COLUMN),
+        Direction::Up => light(NAME_TOP_LEFT, LIGHT_DOWN_AND_RIGHT, COLUMN, LIGHT_VERTICAL),
     }
 }
 
@@ -119,10 +147,30 @@ fn body(d: Direction) -> Characters
     ensures { λ r. ⌜ Sought r (searchedOf Body d) (allowedOf Body d) ⌝ }
 {
     match d {
-        Direction::Right => double(BODY_RIGHT, VERTICAL_SINGLE_AND_LEFT_DOUBLE, TO_RIGHT),
-        Direction::Down => double(BODY_BOTTOM, UP_DOUBLE_AND_HORIZONTAL_SINGLE, TO_BOTTOM),
-        Direction::Left => double(BODY_LEFT, VERTICAL_SINGLE_AND_RIGHT_DOUBLE, TO_LEFT),
-        Direction::Up => double(BODY_TOP, DOWN_DOUBLE_AND_HORIZONTAL_SINGLE, TO_TOP),
+        Direction::Right => double(
+            BODY_RIGHT,
+            VERTICAL_SINGLE_AND_LEFT_DOUBLE,
+            TO_RIGHT,
+            DOUBLE_HORIZONTAL,
+        ),
+        Direction::Down => double(
+            BODY_BOTTOM,
+            UP_DOUBLE_AND_HORIZONTAL_SINGLE,
+            TO_BOTTOM,
+            DOUBLE_VERTICAL,
+        ),
+        Direction::Left => double(
+            BODY_LEFT,
+            VERTICAL_SINGLE_AND_RIGHT_DOUBLE,
+            TO_LEFT,
+            DOUBLE_HORIZONTAL,
+        ),
+        Direction::Up => double(
+            BODY_TOP,
+            DOWN_DOUBLE_AND_HORIZONTAL_SINGLE,
+            TO_TOP,
+            DOUBLE_VERTICAL,
+        ),
     }
 }
 
@@ -131,10 +179,30 @@ fn crossing(d: Direction) -> Characters
     ensures { λ r. ⌜ Sought r (searchedOf Crossing d) (allowedOf Crossing d) ⌝ }
 {
     match d {
-        Direction::Right => double(CROSSING, DOUBLE_VERTICAL_AND_HORIZONTAL, ACROSS),
-        Direction::Down => double(CROSSING, DOUBLE_VERTICAL_AND_HORIZONTAL, DOWN),
-        Direction::Left => double(CROSSING, DOUBLE_VERTICAL_AND_HORIZONTAL, ACROSS),
-        Direction::Up => double(CROSSING, DOUBLE_VERTICAL_AND_HORIZONTAL, DOWN),
+        Direction::Right => double(
+            CROSSING,
+            DOUBLE_VERTICAL_AND_HORIZONTAL,
+            ACROSS,
+            DOUBLE_HORIZONTAL,
+        ),
+        Direction::Down => double(
+            CROSSING,
+            DOUBLE_VERTICAL_AND_HORIZONTAL,
+            DOWN,
+            DOUBLE_VERTICAL,
+        ),
+        Direction::Left => double(
+            CROSSING,
+            DOUBLE_VERTICAL_AND_HORIZONTAL,
+            ACROSS,
+            DOUBLE_HORIZONTAL,
+        ),
+        Direction::Up => double(
+            CROSSING,
+            DOUBLE_VERTICAL_AND_HORIZONTAL,
+            DOWN,
+            DOUBLE_VERTICAL,
+        ),
     }
 }
 

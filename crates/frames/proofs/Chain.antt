@@ -42,7 +42,7 @@ use Rattle.along.proofs.Lines as L
 use Rattle.along.proofs.Lines.Laws as L′
 use Rattle.frames.proofs.{CursorLaws.Moves, CursorLaws.stays, CursorLaws.around, CursorLaws.sides-found, Thin.Layer, Thin.layer-val, Thin.layer-own, Thin.mach, Thin.told, Thin.lined, Thin.Found, Thin.thin}
 use Rattle.frames.proofs.closed as closed
-use Rattle.frames.proofs.frame as chain
+use Rattle.frames.proofs.region_frame as chain
 use Rattle.frames.proofs.right_from as one
 use Rattle.frames.proofs.search_right as right
 

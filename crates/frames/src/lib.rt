@@ -222,8 +222,37 @@ fn closed(
     }
 }
 
-// The frame along lines that starts in column x of row y: one cursor goes around it.
-fn frame(layer: &[u32], w: usize, h: usize, x: usize, y: usize, lines: Lines) -> Framed
+// The frame along lines that starts in column x of row y: one cursor goes around it. Each kind of frame has a function of its own, so that
+// its walks are compiled with its characters.
+fn region_frame(layer: &[u32], w: usize, h: usize, x: usize, y: usize, lines: Lines) -> Framed
+    requires { ⌜ Place w h x y (length (now layer)) ⌝ }
+    ensures { λ r. ⌜ framedIn r ≡ frameOf (kindOf lines) (canvas w h (now (layer .entry))) w h x y ⌝ }
+{
+    let mut cursor = Point { x, y };
+    let right = search_right(layer, w, h, &mut cursor, lines);
+    let down = search_down(layer, w, h, &mut cursor, lines);
+    let bx = cursor.x;
+    let by = cursor.y;
+    let left = search_left(layer, w, h, &mut cursor, lines);
+    let up = search_up(layer, w, h, &mut cursor, lines);
+    closed(x, y, bx, by, cursor.x, cursor.y, right, down, left, up)
+}
+
+fn rectangle_frame(layer: &[u32], w: usize, h: usize, x: usize, y: usize, lines: Lines) -> Framed
+    requires { ⌜ Place w h x y (length (now layer)) ⌝ }
+    ensures { λ r. ⌜ framedIn r ≡ frameOf (kindOf lines) (canvas w h (now (layer .entry))) w h x y ⌝ }
+{
+    let mut cursor = Point { x, y };
+    let right = search_right(layer, w, h, &mut cursor, lines);
+    let down = search_down(layer, w, h, &mut cursor, lines);
+    let bx = cursor.x;
+    let by = cursor.y;
+    let left = search_left(layer, w, h, &mut cursor, lines);
+    let up = search_up(layer, w, h, &mut cursor, lines);
+    closed(x, y, bx, by, cursor.x, cursor.y, right, down, left, up)
+}
+
+fn name_frame(layer: &[u32], w: usize, h: usize, x: usize, y: usize, lines: Lines) -> Framed
     requires { ⌜ Place w h x y (length (now layer)) ⌝ }
     ensures { λ r. ⌜ framedIn r ≡ frameOf (kindOf lines) (canvas w h (now (layer .entry))) w h x y ⌝ }
 {
@@ -242,7 +271,7 @@ pub fn recognize_region(layer: &[u32], w: usize, h: usize, x: usize, y: usize) -
     requires { ⌜ Place w h x y (length (now layer)) ⌝ }
     ensures { λ r. ⌜ framedIn r ≡ frameOf thin (canvas w h (now (layer .entry))) w h x y ⌝ }
 {
-    frame(layer, w, h, x, y, Lines::Region)
+    region_frame(layer, w, h, x, y, Lines::Region)
 }
 
 // The cell of the plane that starts in column x of row y of GRID.
@@ -250,7 +279,7 @@ pub fn recognize_rectangle(layer: &[u32], w: usize, h: usize, x: usize, y: usize
     requires { ⌜ Place w h x y (length (now layer)) ⌝ }
     ensures { λ r. ⌜ framedIn r ≡ frameOf grid (canvas w h (now (layer .entry))) w h x y ⌝ }
 {
-    frame(layer, w, h, x, y, Lines::Rectangle)
+    rectangle_frame(layer, w, h, x, y, Lines::Rectangle)
 }
 
 // The box of the name, which starts in the top left corner of TEXT.
@@ -258,7 +287,7 @@ pub fn recognize_name(layer: &[u32], w: usize, h: usize) -> Framed
     requires { ⌜ Place w h 0 0 (length (now layer)) ⌝ }
     ensures { λ r. ⌜ framedIn r ≡ frameOf name (canvas w h (now (layer .entry))) w h 0 0 ⌝ }
 {
-    frame(layer, w, h, 0, 0, Lines::Name)
+    name_frame(layer, w, h, 0, 0, Lines::Name)
 }
 
 // The rect whose sides four walks from column x of row y come to: the cursor is set back there after each.

@@ -1,4 +1,4 @@
--- Laws of THIN: a character that no arm names becomes blank, and THIN of a whole layer.
+-- Laws of THIN: blank stays, a character that no arm names becomes blank, and THIN of a whole layer.
 use mathlib.Core.Path.{_≡_, refl, sym, ap, _∙_}
 use mathlib.Core.Bool.{false}
 use mathlib.Core.List.{List, [], _∷_}
@@ -14,6 +14,10 @@ use Rattle.lists.proofs.LineLaws.{stores-on}
 use Rattle.lists.proofs.PictureLaws.{within-in, within-out, picture-is, place-fits}
 use Rattle.model.specs.Box.{─, │, ┌, ┐, └, ┘, ├, ┤, ┬, ┴, ┼, ═, ║, ╞, ╟, ╡, ╢, ╤, ╥, ╧, ╨, ╪, ╫, ╬, ░, blank}
 use Rattle.layers.specs.Thin.{thinOf, thinPicture}
+
+pub thin-blank : blank ≡ thinOf blank
+unfolding thinOf oneOf
+thin-blank = refl
 
 -- what a match's default knows: N, and that x is none of the arms' keys
 abbrev pub Missed : Type 0 → List ℕ → ℕ → Type 0

@@ -69,7 +69,7 @@ fn thin_at(text: &[u32], thins: &mut [u32], body: &[u32], grid: &[u32], i: usize
     thins[i] = c[1];
 }
 
-// THIN of TEXT.
+// THIN of TEXT. The last character that was looked up is kept with what was made of it, for equal neighbours.
 pub fn make_thin(
     text: &[u32],
     thins: &mut [u32],
@@ -83,9 +83,19 @@ pub fn make_thin(
 {
     let n = rows * width;
     let mut i = 0;
+    let mut kept = SPACE;
+    let mut made = SPACE;
     while i < n {
-        thin_at(text, thins, body, grid, i);
-        i += 1;
+        let code = text[i];
+        if code == kept {
+            thins[i] = made;
+            i += 1;
+        } else {
+            thin_at(text, thins, body, grid, i);
+            kept = code;
+            made = thins[i];
+            i += 1;
+        }
     }
 }
 

@@ -16,8 +16,9 @@ use Rattle.unicode.specs.Lines.{join, lines, lastOf, texts, kept, line, 
 use Rattle.unicode.specs.LineScan.{lead, RestAt}
 use Rattle.unicode.specs.declared.Rest.{Rest}
 use Rattle.utf8.specs.Utf8.{codes, decode, SameCheck}
+use Rattle.utf8.specs.Passed.{codeOf}
 use Rattle.utf8.specs.declared.Decoded.the-variants.{Char}
-use Rattle.utf8.proofs.Utf8Laws.{codes-at, char-fits, check-at, codes-end}
+use Rattle.utf8.proofs.Utf8Laws.{decode-end, codes-at, char-fits, check-at, codes-end}
 use Rattle.unicode.proofs.TrimLaws.{end-snoc}
 
 -- the first line and the others
@@ -205,8 +206,11 @@ pub found-in : {s : List ℕ} {from count last next valid : ℕ} (r : Rest) → 
     → Found s from count last next valid → Found s from (r .count) (r .last) (r .next) (r .valid)
 found-in r e f = rw e f
 
-pub scan-start : (s : List ℕ) (from : ℕ) → from ≤ length s → Scanned s from from 0 0 0
-scan-start s from h = record { along = omega arith; inside = h; counted = refl; lasting = refl; onward = refl; checks = refl }
+-- at first there is no last code point, as at the end of the bytes
+pub scan-start : (s : List ℕ) (from : ℕ) → from ≤ length s → Scanned s from from 0 0 (codeOf (decode (drop (length s) s)))
+scan-start s from h =
+    let e : 0 ≡ codeOf (decode (drop (length s) s)) = sym (ap codeOf (decode-end s (length s) (omega arith))) in
+    record { along = omega arith; inside = h; counted = refl; lasting = ap (λ (d : ℕ). lasts d (codes (drop from s))) e; onward = refl; checks = refl }
 
 module _ {s : List ℕ} {from p k count last : ℕ} (i : Scanned s from p k count last) where
   module _ {c n : ℕ} (e : decode (drop p s) ≡ Char c n) where

@@ -58,6 +58,9 @@ dark-ascii c h k = sym (dark 0x21 0x84 c refl (omega arith) (omega arith))
 pub dark-low : (c : ℕ) → c < 0x09 → false ≡ white c
 dark-low c h = sym (dark 0 8 c refl (omega arith) (omega arith))
 
+pub white-blank : (c : ℕ) → c ≡ 0x20 → true ≡ white c
+white-blank c e = sym (in-among spaces c (inr (inl (omega arith, omega arith))))
+
 -- above 0x205F
 pub white-high : (c : ℕ) → 0x205F < c → eqb c 0x3000 ≡ white c
 white-high c h =

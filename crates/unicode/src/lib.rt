@@ -1,13 +1,16 @@
 // Unicode: White_Space, trimming, lines.
 use utf8::Decoded;
+ghost use mathlib.Core.Bool.{true};
 ghost use mathlib.Core.Path.{_≡_};
 ghost use Prim.Native.Nat.{_+_, _-_, _<_, _≤_};
 ghost use lib.ListN.{length, drop, take};
-ghost use Rattle.utf8.specs.Utf8.{codes, SameCheck};
+ghost use Rattle.utf8.specs.Utf8.{decode, codes, SameCheck};
+ghost use Rattle.utf8.specs.Passed.{codeOf};
 ghost use Rattle.unicode.specs.White.{white};
 ghost use Rattle.unicode.specs.Trim.{trimStart, trimEnd, trim, trimStartUtf8, trimUtf8, PartIn};
 ghost use Rattle.unicode.specs.Lines.{LineAt, ValidTo};
-ghost use Rattle.unicode.specs.LineScan.{lead, Led, RestAt};
+ghost use Rattle.unicode.specs.LineScan.{lead, Led, RestAt, seenOf, WordAt};
+ghost use Rattle.unicode.specs.declared.Seen.the-variants.{Text};
 
 // Whether a code point is White_Space, by the list of them.
 fn listed(c: u32) -> bool
@@ -50,6 +53,16 @@ pub fn white_space(c: u32) -> bool
     c <= 0x0D
 }
 
+// The same of a code point in a cell: most are blanks.
+fn white_code(c: u32) -> bool
+    ensures { λ r. ⌜ r ≡ white c ⌝ }
+{
+    if c == 0x20 {
+        return true;
+    }
+    white_space(c)
+}
+
 // A part of a slice.
 pub struct Part {
     pub from: usize,
@@ -62,7 +75,7 @@ fn codes_start(s: &[u32]) -> usize
 {
     let mut i = 0;
     while i < s.len() {
-        if white_space(s[i]) {
+        if white_code(s[i]) {
             i += 1;
         } else {
             return i;
@@ -78,7 +91,7 @@ fn codes_end(s: &[u32], from: usize) -> usize
 {
     let mut to = s.len();
     while from < to {
-        if white_space(s[to - 1]) {
+        if white_code(s[to - 1]) {
             to -= 1;
         } else {
             return to;
@@ -209,6 +222,88 @@ fn skip_white(s: &[u8], at: usize) -> usize
     p
 }
 
+// What a line has at a place: a character of its text or white space, each with its number of bytes; a line feed; or nothing that is well-formed.
+enum Seen {
+    Text(usize),
+    White(usize),
+    LineFeed,
+    Nothing,
+}
+
+fn seen_of(d: Decoded) -> Seen
+    ensures { λ r. ⌜ r ≡ seenOf d ⌝ }
+{
+    match d {
+        Decoded::Char(c, n) => {
+            if !white_space(c) {
+                return Seen::Text(n);
+            }
+            if c == 10 {
+                return Seen::LineFeed;
+            }
+            Seen::White(n)
+        }
+        Decoded::IllFormed => Seen::Nothing,
+        Decoded::End => Seen::Nothing,
+    }
+}
+
+fn wide(x: u8) -> u32
+    ensures { λ r. ⌜ (r ≡ x) × (x < 256) ⌝ }
+{
+    x as u32
+}
+
+// Four bytes from a place on as a number, the first as the lowest. They are read at once.
+fn word(s: &[u8], at: usize) -> u32
+    requires { ⌜ at + 4 ≤ length (now s) ⌝ }
+    ensures { λ r. ⌜ WordAt (now (s .entry)) at r ⌝ }
+{
+    wide(s[at])
+        + wide(s[at + 1]) * 0x100
+        + wide(s[at + 2]) * 0x1_0000
+        + wide(s[at + 3]) * 0x100_0000
+}
+
+// Whether three bytes at a place are E2, 94 or 95, 80 to BF, as those of all box characters are. Not told of the last three.
+fn is_box(s: &[u8], at: usize) -> bool
+    requires { ⌜ at < length (now s) ⌝ }
+    ensures { λ r. ⌜ (r ≡ true → seenOf (decode (drop at (now (s .entry)))) ≡ Text 3) ⌝ }
+{
+    if s.len() - at < 4 {
+        return false;
+    }
+    word(s, at) & 0xC0_FEFF == 0x80_94E2
+}
+
+// The same behind a first byte that is no ASCII: box characters first, which most are.
+fn seen_wide(s: &[u8], at: usize) -> Seen
+    requires { ⌜ at < length (now s) ⌝ }
+    ensures { λ r. ⌜ r ≡ seenOf (decode (drop at (now (s .entry)))) ⌝ }
+{
+    if is_box(s, at) {
+        return Seen::Text(3);
+    }
+    seen_of(utf8::next(s, at))
+}
+
+fn seen_at(s: &[u8], at: usize) -> Seen
+    requires { ⌜ at < length (now s) ⌝ }
+    ensures { λ r. ⌜ r ≡ seenOf (decode (drop at (now (s .entry)))) ⌝ }
+{
+    let a = s[at];
+    if 0x7F < a {
+        return seen_wide(s, at);
+    }
+    if 0x20 < a {
+        return Seen::Text(1);
+    }
+    if a == 0x20 {
+        return Seen::White(1);
+    }
+    seen_of(Decoded::Char(a as u32, 1))
+}
+
 // The rest of a line: how many code points are left without the white space at its end, the last of them, where the next line starts, and up to where the bytes are valid.
 struct Rest {
     count: usize,
@@ -217,12 +312,23 @@ struct Rest {
     valid: usize,
 }
 
-fn rest_of(count: usize, last: u32, next: usize, valid: usize) -> Rest
-    ensures { λ r. ⌜ r ≡ record { count = count; last = last; next = next; valid = valid } ⌝ }
+fn code_of(d: Decoded) -> u32
+    ensures { λ r. ⌜ r ≡ codeOf d ⌝ }
+{
+    match d {
+        Decoded::Char(c, _) => c,
+        Decoded::IllFormed => 0,
+        Decoded::End => 0,
+    }
+}
+
+// The last code point is told by its place; where there is none, by the end of the bytes.
+fn rest_of(s: &[u8], count: usize, last: usize, next: usize, valid: usize) -> Rest
+    ensures { λ r. ⌜ r ≡ record { count = count; last = codeOf (decode (drop last (now (s .entry)))); next = next; valid = valid } ⌝ }
 {
     Rest {
         count,
-        last,
+        last: code_of(utf8::next(s, last)),
         next,
         valid,
     }
@@ -237,31 +343,29 @@ fn line_rest(s: &[u8], from: usize) -> Rest
     let mut p = from;
     let mut k: usize = 0;
     let mut count: usize = 0;
-    let mut last: u32 = 0;
+    let mut last = s.len();
     while p < s.len() {
-        let d = utf8::next(s, p);
-        match d {
-            Decoded::Char(c, n) => {
+        let e = seen_at(s, p);
+        match e {
+            Seen::Text(n) => {
+                last = p;
                 p += n;
                 k += 1;
-                if white_space(c) {
-                    if c == 10 {
-                        return rest_of(count, last, p, p);
-                    }
-                } else {
-                    count = k;
-                    last = c;
-                }
+                count = k;
             }
-            Decoded::IllFormed => {
-                return rest_of(count, last, s.len(), p);
+            Seen::White(n) => {
+                p += n;
+                k += 1;
             }
-            Decoded::End => {
-                return rest_of(count, last, s.len(), p);
+            Seen::LineFeed => {
+                return rest_of(s, count, last, p + 1, p + 1);
+            }
+            Seen::Nothing => {
+                return rest_of(s, count, last, s.len(), p);
             }
         }
     }
-    rest_of(count, last, p, p)
+    rest_of(s, count, last, p, p)
 }
 
 // A line: where its trimmed text starts, how many code points that has, the last of them, where the next line starts, and up to where the bytes are valid.

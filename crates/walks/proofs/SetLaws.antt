@@ -1,17 +1,16 @@
--- One computed test says that a walk's sets are those of two lists: `sought`.
+-- One computed test says that a walk is given what it needs for two lists: `sought`.
 use mathlib.Core.Path.{_≡_, refl, sym, ap, _∙_, subst}
-use mathlib.Core.Bool.{Bool, true, false, _&&_, Bool·beq}
+use mathlib.Core.Bool.{Bool, true, false, not, _&&_, Bool·beq}
 use mathlib.Core.List.{List, [], _∷_}
 use Prim.Native.Nat.{ℕ, _+_, _-_, _/_, _%_, _^_, _≤_, _<_}
 use lib.Dec.{eqb, leb, ltb}
 use lib.ListN.{getD}
 use native.Mathlib.Omega.{arith}
-use borrow.Author.Tests.{ne-eqb, eqb-true, leb-true, leb-false, ltb-true, ltb-false, lt-ltb, le-ltb, le-leb, lt-leb}
-use Rattle.lists.specs.Choose.{choose}
+use borrow.Author.Tests.{not-true, ne-eqb, eqb-true, leb-true, leb-false, ltb-true, ltb-false, lt-ltb, le-ltb, le-leb, lt-leb}
 use Rattle.lists.specs.OneOf.{oneOf}
 use Rattle.lists.proofs.OneOfLaws.{allKeys}
 use Rattle.lists.proofs.Tests.{by-flag, true-false, both}
-use Rattle.walks.specs.Sets.{among, hasBit, holds, SetOf, Sought}
+use Rattle.walks.specs.Sets.{among, hasBit, holds, SetOf, Passes, Sought}
 use Rattle.walks.specs.Sides.{allFrom}
 use Rattle.walks.specs.declared.Characters.{Characters}
 use Rattle.walks.specs.declared.Set.{Set}
@@ -84,17 +83,28 @@ set-of set codes e c =
     beq-true (holds set c) (oneOf c codes) (all-true (λ c. Bool·beq (holds set c) (oneOf c codes)) 0x2500 128 (b .0) c low high))
     (λ o. held-out set c o ∙ sym (listed-out codes c (b .1) o))
 
+-- a test that a character is passed
+abbrev passesb : List ℕ → List ℕ → ℕ → Bool
+passesb s a c = not (oneOf c s) && oneOf c a
+
+passed : (s a : List ℕ) (c : ℕ) → passesb s a c ≡ true → Passes s a c
+passed s a c e =
+    let b = both (not (oneOf c s)) (oneOf c a) e in
+    (not-true (oneOf c s) (b .0), b .1)
+
 abbrev pub soughtb : Characters → List ℕ → List ℕ → Bool
-soughtb c s a = (setb (c .searched) s && setb (c .allowed) a) && eqb (c .wanted) (getD s 0 0)
+soughtb c s a = (setb (c .searched) s && setb (c .allowed) a) && (eqb (c .wanted) (getD s 0 0) && passesb s a (c .line))
 
 pub sought : (c : Characters) (s a : List ℕ) → soughtb c s a ≡ true → Sought c s a
 sought c s a e =
-    let b = both (setb (c .searched) s && setb (c .allowed) a) (eqb (c .wanted) (getD s 0 0)) e in
+    let b = both (setb (c .searched) s && setb (c .allowed) a) (eqb (c .wanted) (getD s 0 0) && passesb s a (c .line)) e in
     let t = both (setb (c .searched) s) (setb (c .allowed) a) (b .0) in
+    let o = both (eqb (c .wanted) (getD s 0 0)) (passesb s a (c .line)) (b .1) in
     record {
       ends = set-of (c .searched) s (t .0);
-      first = eqb-true (c .wanted) (getD s 0 0) (b .1);
+      first = eqb-true (c .wanted) (getD s 0 0) (o .0);
       passes = set-of (c .allowed) a (t .1);
+      line = passed s a (c .line) (o .1);
     }
 
 pub told : {r c : Characters} {s a : List ℕ} → r ≡ c → soughtb c s a ≡ true → Sought r s a

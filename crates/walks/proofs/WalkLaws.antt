@@ -3,7 +3,7 @@ use mathlib.Core.Path.{_≡_, refl, sym, ap, _∙_, subst}
 use mathlib.Core.Bool.{Bool, true, false}
 use mathlib.Core.List.{List}
 use mathlib.Core.Logic.{⊎-elim}
-use Prim.Native.Nat.{ℕ, zero, suc, _+_, _-_, _≤_, _<_, _^_}
+use Prim.Native.Nat.{ℕ, zero, suc, _+_, _-_, _≤_, _<_}
 use native.Mathlib.Nat.{eq-or-lt-of-le}
 use native.Mathlib.Numerals.{add-one}
 use native.Mathlib.Omega.{arith}
@@ -14,35 +14,27 @@ use Rattle.lists.specs.OneOf.{oneOf}
 use Rattle.lists.proofs.AnswerLaws.{refused-ok}
 use Rattle.model.specs.Refusals.{Reading}
 use Rattle.model.specs.declared.Refusal.the-variants.{CharactersNotFound, CharacterNotAllowed}
+use Rattle.walks.specs.Sets.{Passes}
 use Rattle.walks.specs.Walk.{walkFrom, walkOf}
 
--- what is kept, where it is a character, passes
-abbrev pub Passes : List ℕ → List ℕ → ℕ → Type 0
-Passes s a c = c < 2 ^ 32 → (oneOf c s ≡ false) × (oneOf c a ≡ true)
-
--- the ways that a turn can go
+-- the ways that a turn can go, whose character is c
 module _ (line : ℕ → ℕ) (s a : List ℕ) (k n : ℕ) where
-  module _ (h : k < n) where
+  module _ (c : ℕ) (h : k < n) (at : line (k + 1) ≡ c) where
     turn : walkFrom line s a k (n - k)
-        ≡ choose (oneOf (line (k + 1)) s) (ok (k + 1)) (choose (oneOf (line (k + 1)) a) (walkFrom line s a (k + 1) (n - (k + 1))) (refused (CharacterNotAllowed (line (k + 1)))))
+        ≡ choose (oneOf c s) (ok (k + 1)) (choose (oneOf c a) (walkFrom line s a (k + 1) (n - (k + 1))) (refused (CharacterNotAllowed c)))
     unfolding walkFrom
     turn =
         let e : n - k ≡ suc (n - (k + 1)) = omega arith in
-        rw (e, add-one)
+        rw (e, ← at, add-one)
 
-    pub turn-found : oneOf (line (k + 1)) s ≡ true → walkFrom line s a k (n - k) ≡ ok (k + 1)
+    pub turn-found : oneOf c s ≡ true → walkFrom line s a k (n - k) ≡ ok (k + 1)
     turn-found e = turn ∙ rw e
 
-    pub turn-barred : oneOf (line (k + 1)) s ≡ false → oneOf (line (k + 1)) a ≡ false → walkFrom line s a k (n - k) ≡ refused (CharacterNotAllowed (line (k + 1)))
+    pub turn-barred : oneOf c s ≡ false → oneOf c a ≡ false → walkFrom line s a k (n - k) ≡ refused (CharacterNotAllowed c)
     turn-barred e f = turn ∙ rw (e, f)
 
-    pub turn-on : oneOf (line (k + 1)) s ≡ false → oneOf (line (k + 1)) a ≡ true → walkFrom line s a k (n - k) ≡ walkFrom line s a (k + 1) (n - (k + 1))
-    turn-on e f = turn ∙ rw (e, f)
-
-    pub turn-same : (c : ℕ) → Passes s a c → line (k + 1) ≡ c → line (k + 1) < 2 ^ 32 → walkFrom line s a k (n - k) ≡ walkFrom line s a (k + 1) (n - (k + 1))
-    turn-same c p e b =
-        let q = p (rw e at b) in
-        turn-on (rw e (q .0)) (rw e (q .1))
+    pub turn-on : Passes s a c → walkFrom line s a k (n - k) ≡ walkFrom line s a (k + 1) (n - (k + 1))
+    turn-on p = turn ∙ rw (p .0, p .1)
 
   pub turn-end : n ≤ k → walkFrom line s a k (n - k) ≡ refused (CharactersNotFound (getD s 0 0))
   unfolding walkFrom

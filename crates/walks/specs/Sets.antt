@@ -1,5 +1,5 @@
 -- Sets of box characters as two numbers: bit k of the first is for the character 0x2500 + k, bit k of the second for 0x2540 + k.
-use mathlib.Core.Bool.{Bool, _&&_}
+use mathlib.Core.Bool.{Bool, true, false, _&&_}
 use mathlib.Core.List.{List}
 use mathlib.Core.Path.{_≡_}
 use Prim.Native.Nat.{ℕ, _+_, _-_, _/_, _%_, _^_}
@@ -26,8 +26,14 @@ holds set c = choose (ltb c 0x2540) (hasBit (set .light) 0x2500 c) (hasBit (set 
 abbrev pub SetOf : Set → List ℕ → Type 0
 SetOf set codes = (c : ℕ) → holds set c ≡ oneOf c codes
 
--- what a walk is given for two lists: the set of the searched characters and the first of them, and the set of the allowed ones
+-- the character c is passed: it is allowed, and not searched
+abbrev pub Passes : List ℕ → List ℕ → ℕ → Type 0
+Passes s a c = (oneOf c s ≡ false) × (oneOf c a ≡ true)
+
+-- what a walk is given for two lists: the set of the searched characters and the first of them, the set of the allowed ones, and a
+-- character that is passed
 pub record Sought (c : Characters) (s a : List ℕ) : Type 0 where
   pub ends : SetOf (c .searched) s
   pub first : c .wanted ≡ getD s 0 0
   pub passes : SetOf (c .allowed) a
+  pub line : Passes s a (c .line)

@@ -3,7 +3,7 @@ use model::Rect;
 use model::Refusal;
 ghost use mathlib.Core.Path.{_≡_};
 ghost use mathlib.Core.List.{List};
-ghost use Prim.Native.Nat.{ℕ, _+_, _<_, _^_};
+ghost use Prim.Native.Nat.{ℕ, _<_};
 ghost use lib.ListN.{length};
 ghost use Rattle.lists.specs.Picture.{canvas};
 ghost use Rattle.walks.specs.Walk.{walkOf, ahead, goOf, stepsIn};
@@ -36,11 +36,12 @@ pub struct Set {
     pub double: u64,
 }
 
-// What a walk searches for, with the first of it by itself, and what it goes over.
+// What a walk searches for, with the first of it by itself, and what it goes over, with the plain character of the line by itself.
 pub struct Characters {
     pub searched: Set,
     pub wanted: u32,
     pub allowed: Set,
+    pub line: u32,
 }
 
 // The place one step on.
@@ -50,9 +51,6 @@ fn next(back: bool, p: usize, step: usize) -> usize
 {
     if back { p - step } else { p + step }
 }
-
-// More than any character.
-const NO_CHARACTER: u64 = 0x1_0000_0000;
 
 // The first characters that the two numbers of a set can have.
 const FIRST_LIGHT: u32 = 0x2500;
@@ -83,8 +81,8 @@ fn holds(set: Set, code: u32) -> bool
     has_bit(set.double, FIRST_DOUBLE, code)
 }
 
-// Over `count` characters of a layer from `at`, which itself is not looked at. The last character that was tested and passed is kept, and
-// passed again with no test: a side is a long run of one.
+// Over `count` characters of a layer from `at`, which itself is not looked at. The last character that passed is kept, at first that of the
+// line, and passed again with no test: a side is a long run of one.
 fn walk_line(
     layer: &[u32],
     back: bool,
@@ -98,19 +96,19 @@ fn walk_line(
 {
     let mut p = at;
     let mut k = 0;
-    let mut kept = NO_CHARACTER;
+    let mut kept = c.line;
     while k < count {
         p = next(back, p, step);
         k += 1;
         let code = layer[p];
-        if code as u64 != kept {
+        if code != kept {
             if holds(c.searched, code) {
                 return Walked::Steps(k);
             }
             if !holds(c.allowed, code) {
                 return Walked::Stopped(Refusal::CharacterNotAllowed(code));
             }
-            kept = code as u64;
+            kept = code;
         }
     }
     Walked::Stopped(Refusal::CharactersNotFound(c.wanted))

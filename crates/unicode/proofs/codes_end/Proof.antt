@@ -24,17 +24,17 @@ abbrev μ-loop : tie.MeasureT-loop
 loop-holds : tie.Need-loop-holds Inv-loop μ-loop
 loop-holds c = (search needs, search needs, ap trimEnd (sym (part-end (c .before .args .s .now) (c .before .args .from))))
 
-sub-white-space : tie.Need-sub-white-space Inv-loop μ-loop
-sub-white-space c = search needs
+sub-white-code : tie.Need-sub-white-code Inv-loop μ-loop
+sub-white-code c = search needs
 
-mul-white-space : tie.Need-mul-white-space Inv-loop μ-loop
-mul-white-space c = search needs
+mul-white-code : tie.Need-mul-white-code Inv-loop μ-loop
+mul-white-code c = search needs
 
-shared-slice-read-white-space : tie.Need-shared-slice-read-white-space Inv-loop μ-loop
-shared-slice-read-white-space c = search needs
+shared-slice-read-white-code : tie.Need-shared-slice-read-white-code Inv-loop μ-loop
+shared-slice-read-white-code c = search needs
 
-white-space-requires : tie.Need-white-space-requires Inv-loop μ-loop
-white-space-requires c κs = search needs
+white-code-requires : tie.Need-white-code-requires Inv-loop μ-loop
+white-code-requires c κs = search needs
 
 sub-to : tie.Need-sub-to Inv-loop μ-loop
 sub-to c = search needs
@@ -46,14 +46,14 @@ loop-again : tie.Need-loop-again Inv-loop μ-loop
 loop-again c =
     let l = c .before .before .before .before in
     let a = l .before .before .args in
-    (search needs, search needs, l .loop .inv .2 ∙ end-white (a .s .now) (a .from) (l .loop .to) (search needs) (search needs) (sym (c .before .white-space .ensures) ∙ c .if1 .taken))
+    (search needs, search needs, l .loop .inv .2 ∙ end-white (a .s .now) (a .from) (l .loop .to) (search needs) (search needs) (sym (c .before .white-code .ensures) ∙ c .if1 .taken))
 
 returns : tie.Need-returns Inv-loop μ-loop
 returns c =
     let l = c .before .before .before .before in
     let g = l .before .before in
     let a = g .args in
-    record { low = le-refl _; ordered = search needs; high = search needs; start = whole _ _ (g .pre); text = sym (l .loop .inv .2 ∙ end-dark (a .s .now) (a .from) (l .loop .to) (search needs) (search needs) (sym (c .before .white-space .ensures) ∙ c .if1 .left)) }
+    record { low = le-refl _; ordered = search needs; high = search needs; start = whole _ _ (g .pre); text = sym (l .loop .inv .2 ∙ end-dark (a .s .now) (a .from) (l .loop .to) (search needs) (search needs) (sym (c .before .white-code .ensures) ∙ c .if1 .left)) }
 
 returns-2 : tie.Need-returns-2 Inv-loop μ-loop
 returns-2 c =
@@ -69,10 +69,10 @@ codes-end-spec =
     Inv-loop
     μ-loop
     loop-holds
-    sub-white-space
-    mul-white-space
-    shared-slice-read-white-space
-    white-space-requires
+    sub-white-code
+    mul-white-code
+    shared-slice-read-white-code
+    white-code-requires
     sub-to
     loop-less
     loop-again

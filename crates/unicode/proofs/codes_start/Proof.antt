@@ -17,14 +17,14 @@ abbrev μ-loop : tie.MeasureT-loop
 loop-holds : tie.Need-loop-holds Inv-loop μ-loop
 loop-holds c = (search needs, refl)
 
-mul-white-space : tie.Need-mul-white-space Inv-loop μ-loop
-mul-white-space c = search needs
+mul-white-code : tie.Need-mul-white-code Inv-loop μ-loop
+mul-white-code c = search needs
 
-shared-slice-read-white-space : tie.Need-shared-slice-read-white-space Inv-loop μ-loop
-shared-slice-read-white-space c = search needs
+shared-slice-read-white-code : tie.Need-shared-slice-read-white-code Inv-loop μ-loop
+shared-slice-read-white-code c = search needs
 
-white-space-requires : tie.Need-white-space-requires Inv-loop μ-loop
-white-space-requires c κs = search needs
+white-code-requires : tie.Need-white-code-requires Inv-loop μ-loop
+white-code-requires c κs = search needs
 
 add-i : tie.Need-add-i Inv-loop μ-loop
 add-i c = search needs
@@ -35,12 +35,12 @@ loop-less c = search needs
 loop-again : tie.Need-loop-again Inv-loop μ-loop
 loop-again c =
     let l = c .before .before .before .before in
-    (search needs, l .loop .inv .1 ∙ start-white (l .before .before .args .s .now) (l .loop .i) (search needs) (sym (c .before .white-space .ensures) ∙ c .if1 .taken))
+    (search needs, l .loop .inv .1 ∙ start-white (l .before .before .args .s .now) (l .loop .i) (search needs) (sym (c .before .white-code .ensures) ∙ c .if1 .taken))
 
 returns : tie.Need-returns Inv-loop μ-loop
 returns c =
     let l = c .before .before .before .before in
-    (search needs, sym (l .loop .inv .1 ∙ start-dark (l .before .before .args .s .now) (l .loop .i) (search needs) (sym (c .before .white-space .ensures) ∙ c .if1 .left)))
+    (search needs, sym (l .loop .inv .1 ∙ start-dark (l .before .before .args .s .now) (l .loop .i) (search needs) (sym (c .before .white-code .ensures) ∙ c .if1 .left)))
 
 returns-2 : tie.Need-returns-2 Inv-loop μ-loop
 returns-2 c =
@@ -54,9 +54,9 @@ codes-start-spec =
     Inv-loop
     μ-loop
     loop-holds
-    mul-white-space
-    shared-slice-read-white-space
-    white-space-requires
+    mul-white-code
+    shared-slice-read-white-code
+    white-code-requires
     add-i
     loop-less
     loop-again

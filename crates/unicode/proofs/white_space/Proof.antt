@@ -1,10 +1,7 @@
 -- `unicode::white_space` meets its contract.
-use mathlib.Core.Path.{sym}
-use mathlib.Core.Logic.{inl, inr}
 use native.Mathlib.Omega.{arith}
 use borrow.Author.Needs.{needs}
-use Rattle.unicode.specs.White.{spaces}
-use Rattle.unicode.proofs.WhiteLaws.{in-among, dark-ascii, dark-low, white-high, white-low}
+use Rattle.unicode.proofs.WhiteLaws.{dark-ascii, dark-low, white-blank, white-high, white-low}
 use Rattle.unicode.proofs.white_space.Statement.{statement}
 use Rattle.unicode.proofs.white_space.Tie as tie
 
@@ -21,7 +18,7 @@ returns-3 : tie.Need-returns-3
 returns-3 c = c .listed .ensures
 
 returns-4 : tie.Need-returns-4
-returns-4 c = sym (in-among spaces _ (inr (inl (omega arith, omega arith))))
+returns-4 c = white-blank _ (c .if4 .taken)
 
 returns-5 : tie.Need-returns-5
 returns-5 c = dark-low _ (omega arith)

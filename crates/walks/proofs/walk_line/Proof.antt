@@ -7,13 +7,11 @@ use native.Mathlib.Nat.{sub-zero}
 use lib.ListN.{length, getD}
 use borrow.Author.Tests.{not-true, not-false}
 use Rattle.lists.specs.Answer.{refused}
-use Rattle.lists.specs.OneOf.{oneOf}
-use Rattle.model.specs.declared.Refusal.the-variants.{CharactersNotFound, CharacterNotAllowed}
+use Rattle.model.specs.declared.Refusal.the-variants.{CharactersNotFound}
 use Rattle.walks.specs.Walk.{walkFrom, walkOf}
 use Rattle.walks.specs.Line.{place, lineOf, nextOf}
-use Rattle.walks.specs.declared.Set.{Set}
-use Rattle.walks.specs.Sets.{holds, SetOf, Sought}
-use Rattle.walks.proofs.WalkLaws.{Passes, turn-found, turn-barred, turn-on, turn-same, turn-end}
+use Rattle.walks.specs.Sets.{Passes, Sought}
+use Rattle.walks.proofs.WalkLaws.{turn-found, turn-barred, turn-on, turn-end}
 use Rattle.walks.proofs.LineLaws.{place-zero, place-next, reach-next, reach-in}
 use native.Mathlib.Omega.{arith}
 use borrow.Author.Needs.{needs}
@@ -29,7 +27,7 @@ abbrev μ-loop : tie.MeasureT-loop
 loop-holds : tie.Need-loop-holds Inv-loop μ-loop
 loop-holds c =
     let a = c .before .args in
-    (search needs, (place-zero (a .back) (a .at) (a .step), λ ss aa e. (rw sub-zero, λ h. absurd (omega arith))))
+    (search needs, (place-zero (a .back) (a .at) (a .step), λ ss aa e. (rw sub-zero, e .line)))
 
 abbrev line : tie.Start Inv-loop μ-loop → ℕ → ℕ
 line t = lineOf (t .args .layer .now) (t .args .back) (t .args .at) (t .args .step)
@@ -50,11 +48,27 @@ inside c =
     let l = c .before .before .loop in
     subst (λ (n : ℕ). n < length (a .layer .now)) (sym (here c)) (reach-in (a .back) (a .at) (a .step) (a .count) (length (a .layer .now)) (l .k + 1) (c .before .before .before .before .pre) (omega (arith, c .before .loop-test .taken)))
 
--- what a test of the turn's character told
-told : (c : tie.After-next Inv-loop μ-loop) (set : Set) (ks : List ℕ) {r t : Bool} → SetOf set ks → r ≡ holds set (getD (entry c .args .layer .now) (c .next .result) 0) → r ≡ t → oneOf (line (entry c) (c .before .before .loop .k + 1)) ks ≡ t
-told c set ks m e q =
-    let at = getD (entry c .args .layer .now) (c .next .result) 0 in
-    ap (λ (n : ℕ). oneOf (getD (entry c .args .layer .now) n 0) ks) (sym (here c)) ∙ sym (m at) ∙ sym e ∙ q
+-- the turn's character
+abbrev code : tie.After-next Inv-loop μ-loop → ℕ
+code c = getD (entry c .args .layer .now) (c .next .result) 0
+
+stands : (c : tie.After-next Inv-loop μ-loop) → line (entry c) (c .before .before .loop .k + 1) ≡ code c
+stands c = ap (λ (q : ℕ). getD (entry c .args .layer .now) q 0) (sym (here c))
+
+-- what the answer of a test told
+told : {h o r t : Bool} → h ≡ o → r ≡ h → r ≡ t → o ≡ t
+told m e q = sym m ∙ sym e ∙ q
+
+-- a turn whose character is passed, and kept
+on : (c : tie.After-next Inv-loop μ-loop) (kept : ℕ) → line (entry c) (c .before .before .loop .k + 1) ≡ kept
+    → ((s a : List ℕ) → Sought (entry c .args .c) s a → Passes s a kept)
+    → Inv-loop (entry c .args .layer .now) (entry c .args .back) (entry c .args .at) (entry c .args .step) (entry c .args .count) (entry c .args .c) 0 0 0 (c .next .result) (c .before .before .loop .k + 1) kept
+on c kept q p =
+    let l = c .before .before .loop in
+    let h = c .before .loop-test .taken in (
+      omega (arith, h),
+      (here c, λ ss aa e. (sym (turn-on (line (entry c)) ss aa (l .k) (entry c .args .count) kept h q (p ss aa e)) ∙ l .inv .1 .1 ss aa e .0, p ss aa e)),
+    )
 
 next-requires : tie.Need-next-requires Inv-loop μ-loop
 next-requires c κs =
@@ -72,9 +86,6 @@ mul-code c = omega (arith, inside c, entry c .good .0 .1)
 shared-slice-read-code : tie.Need-shared-slice-read-code Inv-loop μ-loop
 shared-slice-read-code c = inside (c .before)
 
-cast-if1 : tie.Need-cast-if1 Inv-loop μ-loop
-cast-if1 c = omega (arith, c .shared-slice-known2 .given (c .before .next .result))
-
 holds-requires : tie.Need-holds-requires Inv-loop μ-loop
 holds-requires c κs = search needs
 
@@ -82,7 +93,7 @@ returns : tie.Need-returns Inv-loop μ-loop
 returns c ss aa e =
     let n = c .before .before .before .before in
     let l = n .before .before .loop in
-    sym (turn-found (line (entry n)) ss aa (l .k) (entry n .args .count) (n .before .loop-test .taken) (told n (entry n .args .c .searched) ss (e .ends) (c .before .holds .ensures) (c .if2 .taken)))
+    sym (turn-found (line (entry n)) ss aa (l .k) (entry n .args .count) (code n) (n .before .loop-test .taken) (stands n) (told (e .ends (code n)) (c .before .holds .ensures) (c .if2 .taken)))
     ∙ l .inv .1 .1 ss aa e .0
 
 holds-requires-2 : tie.Need-holds-requires-2 Inv-loop μ-loop
@@ -93,14 +104,8 @@ returns-2 c ss aa e =
     let m = c .before .before .before in
     let n = m .before .before .before in
     let l = n .before .before .loop in
-    ap (λ (q : ℕ). refused (CharacterNotAllowed (getD (entry n .args .layer .now) q 0))) (here n)
-    ∙ sym (turn-barred (line (entry n)) ss aa (l .k) (entry n .args .count) (n .before .loop-test .taken) (told n (entry n .args .c .searched) ss (e .ends) (m .holds .ensures) (c .before .before .if2 .left)) (told n (entry n .args .c .allowed) aa (e .passes) (c .before .holds2 .ensures) (not-true _ (c .if3 .taken))))
+    sym (turn-barred (line (entry n)) ss aa (l .k) (entry n .args .count) (code n) (n .before .loop-test .taken) (stands n) (told (e .ends (code n)) (m .holds .ensures) (c .before .before .if2 .left)) (told (e .passes (code n)) (c .before .holds2 .ensures) (not-true _ (c .if3 .taken))))
     ∙ l .inv .1 .1 ss aa e .0
-
-cast-kept : tie.Need-cast-kept Inv-loop μ-loop
-cast-kept c =
-    let t = c .before .before .before .before .before in
-    omega (arith, t .shared-slice-known2 .given (t .before .next .result))
 
 loop-less : tie.Need-loop-less Inv-loop μ-loop
 loop-less c = search needs
@@ -109,20 +114,8 @@ loop-again : tie.Need-loop-again Inv-loop μ-loop
 loop-again c =
     let m = c .before .before .before in
     let n = m .before .before .before in
-    let l = n .before .before .loop in
-    let at = getD (entry n .args .layer .now) (n .next .result) 0 in
-    let s = m .holds .ensures in
-    let a = c .before .holds2 .ensures in (
-      omega (arith, n .before .loop-test .taken),
-      (
-        here n,
-        λ ss aa e. (
-          sym (turn-on (line (entry n)) ss aa (l .k) (entry n .args .count) (n .before .loop-test .taken) (told n (entry n .args .c .searched) ss (e .ends) s (c .before .before .if2 .left)) (told n (entry n .args .c .allowed) aa (e .passes) a (not-false _ (c .if3 .left))))
-              ∙ l .inv .1 .1 ss aa e .0,
-          λ h. (sym (e .ends at) ∙ sym s ∙ c .before .before .if2 .left, sym (e .passes at) ∙ sym a ∙ not-false _ (c .if3 .left)),
-        ),
-      ),
-    )
+    on n (code n) (stands n)
+    (λ ss aa e. (told (e .ends (code n)) (m .holds .ensures) (c .before .before .if2 .left), told (e .passes (code n)) (c .before .holds2 .ensures) (not-false _ (c .if3 .left))))
 
 loop-less-2 : tie.Need-loop-less-2 Inv-loop μ-loop
 loop-less-2 c = search needs
@@ -131,18 +124,7 @@ loop-again-2 : tie.Need-loop-again-2 Inv-loop μ-loop
 loop-again-2 c =
     let n = c .before .before in
     let l = n .before .before .loop in
-    let q = ap (λ (q : ℕ). getD (entry n .args .layer .now) q 0) (sym (here n)) in (
-      omega (arith, n .before .loop-test .taken),
-      (
-        here n,
-        λ ss aa e.
-            let i = l .inv .1 .1 ss aa e in (
-              sym (turn-same (line (entry n)) ss aa (l .k) (entry n .args .count) (n .before .loop-test .taken) (l .kept) (i .1) (q ∙ c .if1 .left) (rw q (omega (arith, c .before .shared-slice-known2 .given (n .next .result)))))
-                  ∙ i .0,
-              i .1,
-            ),
-      ),
-    )
+    on n (l .kept) (stands n ∙ c .if1 .left) (λ ss aa e. l .inv .1 .1 ss aa e .1)
 
 returns-3 : tie.Need-returns-3 Inv-loop μ-loop
 returns-3 c ss aa e =
@@ -163,12 +145,10 @@ walk-line-spec =
     add-k
     mul-code
     shared-slice-read-code
-    cast-if1
     holds-requires
     returns
     holds-requires-2
     returns-2
-    cast-kept
     loop-less
     loop-again
     loop-less-2

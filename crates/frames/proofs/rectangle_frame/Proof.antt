@@ -1,4 +1,4 @@
--- `frames::frame` meets its contract: one cursor is lent to four walks, as `Chain` shows.
+-- `frames::rectangle_frame` meets its contract: one cursor is lent to four walks, as `Chain` shows.
 use contract.Running.{givenOf, tables, tablesOf}
 use denote.Triple.Spec.{tripleOf}
 use denote.Triple.Table.{entered, cited}
@@ -19,16 +19,16 @@ use Rattle.frames.proofs.search_left.Met as left-thm
 use Rattle.frames.proofs.search_up.Symbol as up-def
 use Rattle.frames.proofs.search_up.Symbol.{name as #frames·search-up}
 use Rattle.frames.proofs.search_up.Met as up-thm
-use Rattle.frames.proofs.frame.Key.{name as #frames·frame}
-use Rattle.frames.proofs.frame as fn
-use Rattle.frames.proofs.frame.Statement as stated
-use Rattle.frames.proofs.frame.Code as code
+use Rattle.frames.proofs.rectangle_frame.Key.{name as #frames·rectangle-frame}
+use Rattle.frames.proofs.rectangle_frame as fn
+use Rattle.frames.proofs.rectangle_frame.Statement as stated
+use Rattle.frames.proofs.rectangle_frame.Code as code
 
-pub frame-spec : {M : Type 1} → stated.statement M
+pub rectangle-frame-spec : {M : Type 1} → stated.statement M
 unfolding code.routine tablesOf
-frame-spec 𝓤 H 𝓜 𝓖 𝓡 =
+rectangle-frame-spec 𝓤 H 𝓜 𝓖 𝓡 =
     entered 𝓤 H (tripleOf 𝓤 H (𝓖 .A) fn.signature (fn.spec 𝓤 H (𝓖 .A) (𝓜 .mem) (𝓡 .run)))
-    (tables 𝓤 H 𝓜 𝓡 code.env .C) (tables 𝓤 H 𝓜 𝓡 code.env .Λ) #frames·frame code.function (code.unfolded 𝓤 H 𝓜 𝓡)
+    (tables 𝓤 H 𝓜 𝓡 code.env .C) (tables 𝓤 H 𝓜 𝓡 code.env .Λ) #frames·rectangle-frame code.function (code.unfolded 𝓤 H 𝓜 𝓡)
     (frame-meets (record { right = #frames·search-right; down = #frames·search-down; left = #frames·search-left; up = #frames·search-up; closes = #frames·closed }) 𝓤 H (𝓖 .A) (givenOf 𝓤 H 𝓜 𝓖) (tablesOf 𝓤 H 𝓜 (tables 𝓤 H 𝓜 𝓡 code.env))
     (record {
       right = cited 𝓤 H (Walker Right 𝓤 H (𝓖 .A)) 𝓜 𝓡 code.env #frames·search-right right-def.routine code.calls-frames·search-right (right-thm.met 𝓤 H 𝓜 𝓖 𝓡);
