@@ -8,14 +8,13 @@ ghost use Rattle.room.specs.Room.{Roomy};
 ghost use Rattle.builder.specs.SheetEnd.{sheetSizes, sheetEnd};
 
 // The least lengths of the work slices, in the order in which they are lent.
-const SHEET_SIZES: [usize; 8] = [15360, 15360, 15360, 15360, 4096, 2048, 4160, 61444];
+const SHEET_SIZES: [usize; 7] = [15360, 15360, 15360, 15360, 2048, 4160, 61444];
 
-fn clear_three(a: &mut [u32], b: &mut [u32], c: &mut [u32])
-    ensures { λ _. ⌜ (now (a .exit) ≡ zeros (now (a .entry))) × (now (b .exit) ≡ zeros (now (b .entry))) × (now (c .exit) ≡ zeros (now (c .entry))) ⌝ }
+fn clear_two(a: &mut [u32], b: &mut [u32])
+    ensures { λ _. ⌜ (now (a .exit) ≡ zeros (now (a .entry))) × (now (b .exit) ≡ zeros (now (b .entry))) ⌝ }
 {
     lists::clear_u32(a);
     lists::clear_u32(b);
-    lists::clear_u32(c);
 }
 
 // The record of a drawing; then the work slices are cleared.
@@ -25,29 +24,17 @@ fn sheet_cleared(
     thins: &mut [u32],
     bodies: &mut [u32],
     grid: &mut [u32],
-    rects: &mut [u32],
     spans: &mut [u32],
     plane: &mut [u32],
     bytes: &mut [u8],
     out: &mut [u8],
 ) -> Outcome
-    requires { ⌜ Roomy (now text ∷ now thins ∷ now bodies ∷ now grid ∷ now rects ∷ now spans ∷ now plane ∷ now bytes ∷ []) sheetSizes ⌝ }
-    ensures end { λ r. ⌜ sheetEnd (now (s .entry)) (now (text .entry) ∷ now (thins .entry) ∷ now (bodies .entry) ∷ now (grid .entry) ∷ now (rects .entry) ∷ now (spans .entry) ∷ now (plane .entry) ∷ now (bytes .entry) ∷ []) (now (out .entry)) ≡ record { outcome = r; works = now (text .exit) ∷ now (thins .exit) ∷ now (bodies .exit) ∷ now (grid .exit) ∷ now (rects .exit) ∷ now (spans .exit) ∷ now (plane .exit) ∷ now (bytes .exit) ∷ []; out = now (out .exit) } ⌝ }
+    requires { ⌜ Roomy (now text ∷ now thins ∷ now bodies ∷ now grid ∷ now spans ∷ now plane ∷ now bytes ∷ []) sheetSizes ⌝ }
+    ensures end { λ r. ⌜ sheetEnd (now (s .entry)) (now (text .entry) ∷ now (thins .entry) ∷ now (bodies .entry) ∷ now (grid .entry) ∷ now (spans .entry) ∷ now (plane .entry) ∷ now (bytes .entry) ∷ []) (now (out .entry)) ≡ record { outcome = r; works = now (text .exit) ∷ now (thins .exit) ∷ now (bodies .exit) ∷ now (grid .exit) ∷ now (spans .exit) ∷ now (plane .exit) ∷ now (bytes .exit) ∷ []; out = now (out .exit) } ⌝ }
 {
-    let r = drawn_records::sheet_record(
-        s,
-        text,
-        thins,
-        bodies,
-        grid,
-        rects,
-        spans,
-        plane,
-        bytes,
-        out,
-    );
+    let r = drawn_records::sheet_record(s, text, thins, bodies, grid, spans, plane, bytes, out);
     ends::clear_four(text, thins, bodies, grid);
-    clear_three(rects, spans, plane);
+    clear_two(spans, plane);
     lists::clear_u8(bytes);
     r
 }
@@ -59,38 +46,25 @@ pub fn read_sheet(
     thins: &mut [u32],
     bodies: &mut [u32],
     grid: &mut [u32],
-    rects: &mut [u32],
     spans: &mut [u32],
     plane: &mut [u32],
     bytes: &mut [u8],
     out: &mut [u8],
 ) -> Outcome
-    ensures end { λ r. ⌜ sheetEnd (now (s .entry)) (now (text .entry) ∷ now (thins .entry) ∷ now (bodies .entry) ∷ now (grid .entry) ∷ now (rects .entry) ∷ now (spans .entry) ∷ now (plane .entry) ∷ now (bytes .entry) ∷ []) (now (out .entry)) ≡ record { outcome = r; works = now (text .exit) ∷ now (thins .exit) ∷ now (bodies .exit) ∷ now (grid .exit) ∷ now (rects .exit) ∷ now (spans .exit) ∷ now (plane .exit) ∷ now (bytes .exit) ∷ []; out = now (out .exit) } ⌝ }
+    ensures end { λ r. ⌜ sheetEnd (now (s .entry)) (now (text .entry) ∷ now (thins .entry) ∷ now (bodies .entry) ∷ now (grid .entry) ∷ now (spans .entry) ∷ now (plane .entry) ∷ now (bytes .entry) ∷ []) (now (out .entry)) ≡ record { outcome = r; works = now (text .exit) ∷ now (thins .exit) ∷ now (bodies .exit) ∷ now (grid .exit) ∷ now (spans .exit) ∷ now (plane .exit) ∷ now (bytes .exit) ∷ []; out = now (out .exit) } ⌝ }
 {
     let lens = [
         text.len(),
         thins.len(),
         bodies.len(),
         grid.len(),
-        rects.len(),
         spans.len(),
         plane.len(),
         bytes.len(),
     ];
     let sizes = SHEET_SIZES;
     match room::work_slices(&lens, &sizes) {
-        WorkSlices::Enough => sheet_cleared(
-            s,
-            text,
-            thins,
-            bodies,
-            grid,
-            rects,
-            spans,
-            plane,
-            bytes,
-            out,
-        ),
+        WorkSlices::Enough => sheet_cleared(s, text, thins, bodies, grid, spans, plane, bytes, out),
         WorkSlices::Short(r) => Outcome::Refused(r),
     }
 }

@@ -126,14 +126,13 @@ module _ (s : List ℕ) (o : Outline) (e : ok o ≡ sheetOf s) {h w : ℕ} {t m 
       let f = size-in in
       record { columns = omega arith; rows = omega arith; size = omega arith }
 
-  pub plane-room : {rects bytes spans d : List ℕ} → Room t m b g → regionCount * 4 ≤ length rects → textBytes + 4 ≤ length bytes → regionCount * 2 ≤ length spans → planeSize ≤ length d
-      → PlaneRoom w h t m g b rects bytes spans d
-  plane-room a r x y z =
+  pub plane-room : {bytes spans d : List ℕ} → Room t m b g → textBytes + 4 ≤ length bytes → regionCount * 2 ≤ length spans → planeSize ≤ length d
+      → PlaneRoom w h t m g b bytes spans d
+  plane-room a x y z =
       let q = size-in in
       record {
-        regions = record { layer = layer-in m (a .thin); size = omega (arith, a .text); fourEach = r; allTexts = x; twoEach = y };
+        regions = record { layer = layer-in m (a .thin); size = omega (arith, a .text); fourEach = omega (arith, a .body); allTexts = x; twoEach = y };
         grid = layer-in g (a .grid);
-        size = omega (arith, a .body);
         plane = z;
       }
 

@@ -49,10 +49,9 @@ abbrev pub DrawnHeld : DrawnRows → List ℕ → List ℕ → List ℕ → Type
 DrawnHeld (Rows n count named) plane bytes spans = Held plane n (take textBytes bytes) spans count × NameIn named (take textBytes bytes) spans count
 DrawnHeld (NotDrawn r) plane bytes spans = Unit {0}
 
--- the work slices: four layers, the regions with their texts, and a plane
-pub record DrawnRoom (t m b g rects bytes spans d : List ℕ) : Type 0 where
+-- the work slices: four layers, the texts of the regions, and a plane
+pub record DrawnRoom (t m b g bytes spans d : List ℕ) : Type 0 where
   pub layers : Room t m b g
-  pub fourEach : regionCount * 4 ≤ length rects
   pub allTexts : textBytes + 4 ≤ length bytes
   pub twoEach : regionCount * 2 ≤ length spans
   pub plane : planeSize ≤ length d

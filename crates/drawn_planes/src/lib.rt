@@ -18,12 +18,11 @@ pub fn drawn_plane(
     thins: &mut [u32],
     bodies: &mut [u32],
     grid: &mut [u32],
-    rects: &mut [u32],
     bytes: &mut [u8],
     spans: &mut [u32],
     plane: &mut [u32],
 ) -> DrawnRows
-    requires { ⌜ DrawnRoom (now text) (now thins) (now bodies) (now grid) (now rects) (now bytes) (now spans) (now plane) ⌝ }
+    requires { ⌜ DrawnRoom (now text) (now thins) (now bodies) (now grid) (now bytes) (now spans) (now plane) ⌝ }
     ensures plane { λ r. ⌜ drawnIn r (now (plane .exit)) (now (bytes .exit)) (now (spans .exit)) ≡ namedPlane (now (s .entry)) ⌝ }
     ensures held { λ r. ⌜ DrawnHeld r (now (plane .exit)) (now (bytes .exit)) (now (spans .exit)) ⌝ }
 {
@@ -36,7 +35,6 @@ pub fn drawn_plane(
             bodies,
             columns,
             rows,
-            rects,
             bytes,
             spans,
             plane,

@@ -35,7 +35,6 @@ pub fn put_sheet(out: &mut [u8], at: usize, s: &[u8]) -> usize
     let mut thins = [0u32; CANVAS_SIZE];
     let mut bodies = [0u32; CANVAS_SIZE];
     let mut grid = [0u32; CANVAS_SIZE];
-    let mut rects = [0u32; 4096];
     let mut spans = [0u32; 2048];
     let mut plane = [0u32; 4160];
     let mut bytes = [0u8; 61444];
@@ -46,7 +45,6 @@ pub fn put_sheet(out: &mut [u8], at: usize, s: &[u8]) -> usize
         &mut thins,
         &mut bodies,
         &mut grid,
-        &mut rects,
         &mut spans,
         &mut plane,
         &mut bytes,

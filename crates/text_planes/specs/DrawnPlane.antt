@@ -1,6 +1,6 @@
 -- The plane that a drawing states, with the texts of its regions: document 01, "Regions and plane".
 use mathlib.Core.List.{List}
-use Prim.Native.Nat.{ℕ, _*_, _≤_}
+use Prim.Native.Nat.{ℕ, _≤_}
 use lib.ListN.{length, take}
 use Rattle.lists.specs.Answer.{ok, refused, _>>=_}
 use Rattle.lists.specs.Picture.{Picture}
@@ -39,9 +39,8 @@ abbrev pub PlaneHeld : PlaneRead → List ℕ → List ℕ → List ℕ → Type
 PlaneHeld (Rows n count) plane bytes spans = Held plane n (take textBytes bytes) spans count
 PlaneHeld (NoPlane r) plane bytes spans = Unit {0}
 
--- the slices that reading a plane is handed; b has a place for the number of each frame
-pub record PlaneRoom (w h : ℕ) (t m g b rects bytes spans d : List ℕ) : Type 0 where
-  pub regions : RegionRoom w h t m rects bytes spans
+-- the slices that reading a plane is handed: b takes the regions, m the number of each frame
+pub record PlaneRoom (w h : ℕ) (t m g b bytes spans d : List ℕ) : Type 0 where
+  pub regions : RegionRoom w h t m b bytes spans
   pub grid : Layer w h (length g)
-  pub size : h * w ≤ length b
   pub plane : planeSize ≤ length d

@@ -44,34 +44,33 @@ pub enum PlaneRead {
     NoPlane(Refusal),
 }
 
-// The plane of the layers of a drawing, and the texts of its regions. Once there is GRID, BODY is not needed: the numbers
-// of the frames go there.
+// The plane of the layers of a drawing, and the texts of its regions. Once there is GRID, BODY is not needed: the regions
+// go there. Once their texts are gathered THIN is not: the numbers of the frames of GRID go there.
 pub fn read_plane(
     o: Outline,
     text: &[u32],
-    thins: &[u32],
+    thins: &mut [u32],
     grid: &[u32],
     bodies: &mut [u32],
     w: usize,
     h: usize,
-    rects: &mut [u32],
     bytes: &mut [u8],
     spans: &mut [u32],
     plane: &mut [u32],
 ) -> PlaneRead
-    requires { ⌜ PlaneRoom w h (now text) (now thins) (now grid) (now bodies) (now rects) (now bytes) (now spans) (now plane) ⌝ }
+    requires { ⌜ PlaneRoom w h (now text) (now thins) (now grid) (now bodies) (now bytes) (now spans) (now plane) ⌝ }
     ensures answer { λ r. ⌜ planeRead r (now (plane .exit)) (now (bytes .exit)) (now (spans .exit)) ≡ textPlaneOf o (canvas w h (now (text .entry))) (canvas w h (now (thins .entry))) (canvas w h (now (grid .entry))) w h ⌝ }
     ensures held { λ r. ⌜ PlaneHeld r (now (plane .exit)) (now (bytes .exit)) (now (spans .exit)) ⌝ }
 {
-    match read_regions(text, thins, w, h, rects, bytes, spans) {
+    match read_regions(text, thins, w, h, bodies, bytes, spans) {
         RegionsRead::Read(count, _) => match step::make_plane(
             o,
             grid,
             w,
             h,
-            rects,
-            count,
             bodies,
+            count,
+            thins,
             plane,
         ) {
             PlaneMade::Made(n) => PlaneRead::Rows(n, count),

@@ -56,7 +56,7 @@ make-plane-requires c κs =
     let k = c .before .before .before in
     let p = start k .pre in
     let u = used k in
-    (record { layer = p .grid; size = p .size; few = u .0; rects = omega (arith, u .0, p .regions .fourEach, read k .read-regions .kept .1 .1 .1 .1 .0) }, p .plane)
+    (record { layer = p .grid; size = p .regions .layer .size; few = u .0; rects = omega (arith, u .0, p .regions .fourEach, read k .read-regions .kept .1 .1 .1 .1 .0) }, p .plane)
 
 enum-known-n : tie.Need-enum-known-n
 enum-known-n c = search needs
@@ -125,6 +125,9 @@ same-length-12 c = search needs
 same-length-13 : tie.Need-same-length-13
 same-length-13 c = search needs
 
+same-length-14 : tie.Need-same-length-14
+same-length-14 c = search needs
+
 returns-3 : tie.Need-returns-3
 returns-3 c =
     let g = c .before .before .before .before .before .before .before .before .before in
@@ -155,4 +158,5 @@ read-plane-spec =
     same-length-11
     same-length-12
     same-length-13
+    same-length-14
     returns-3)
