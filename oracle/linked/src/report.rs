@@ -42,7 +42,7 @@ const ONE_LINE: Reach = Open(
 /// A refusal: its name in the counts, what it means, and its reach by the reader, the lent plane and the split.
 type Row = (&'static str, &'static str, [Reach; 3]);
 
-const ROWS: [Row; 62] = [
+const ROWS: [Row; 60] = [
     ("record rows", "", [Yes, Yes, NOT_SPLIT]),
     ("record columns", "", [Yes, Yes, NOT_SPLIT]),
     ("own", "the text's own values", [NO_SPLIT, NO_SPLIT, Yes]),
