@@ -192,7 +192,7 @@ fn cut_sheets() {
         (Wrong::Total, 75),
         (Wrong::End(0), 75),
         (Wrong::TooShortEarly, 75),
-        (Wrong::NotCleared(7), 0),
+        (Wrong::NotCleared(5), 0),
         (Wrong::ShortLast, 0),
     ];
     for (wrong, most) in faults {
