@@ -6,7 +6,7 @@
 #include <stdlib.h>
 
 static uint32_t text[FEZANDIMO_LAYER], thins[FEZANDIMO_LAYER], bodies[FEZANDIMO_LAYER], grid[FEZANDIMO_LAYER];
-static uint32_t rects[FEZANDIMO_RECTS], spans[FEZANDIMO_SPANS], plane[FEZANDIMO_PLANE];
+static uint32_t spans[FEZANDIMO_SPANS];
 static uint8_t bytes[FEZANDIMO_BYTES];
 
 struct part {
@@ -41,7 +41,7 @@ static struct part input(void) {
 static struct fezandimo_answer answer(struct part sheet, struct part out) {
     return fezandimo_read_sheet(
         sheet.start, sheet.count, text, FEZANDIMO_LAYER, thins, FEZANDIMO_LAYER, bodies, FEZANDIMO_LAYER, grid, FEZANDIMO_LAYER,
-        rects, FEZANDIMO_RECTS, spans, FEZANDIMO_SPANS, plane, FEZANDIMO_PLANE, bytes, FEZANDIMO_BYTES, out.start, out.count);
+        spans, FEZANDIMO_SPANS, bytes, FEZANDIMO_BYTES, out.start, out.count);
 }
 
 /* A word of a record: four bytes, the low one first. */

@@ -21,7 +21,6 @@ extern "C" {
 /* The least elements of the work slices. */
 enum {
     FEZANDIMO_LAYER = 15360,   /* uint32_t: text, thins, bodies and grid, a layer of the canvas each */
-    FEZANDIMO_RECTS = 4096,    /* uint32_t: rects, the regions */
     FEZANDIMO_SPANS = 2048,    /* uint32_t: spans, where the regions' texts stand */
     FEZANDIMO_PLANE = 4160,    /* uint32_t: plane and upright, rows of cells */
     FEZANDIMO_SLOTS = 12480,   /* uint32_t: slots, where the record's texts stand */
@@ -72,10 +71,8 @@ struct fezandimo_answer fezandimo_read_sheet(
     uint32_t *thins, size_t thin_count,       /* work slice 1: FEZANDIMO_LAYER */
     uint32_t *bodies, size_t body_count,      /* work slice 2: FEZANDIMO_LAYER */
     uint32_t *grid, size_t grid_count,        /* work slice 3: FEZANDIMO_LAYER */
-    uint32_t *rects, size_t rect_count,       /* work slice 4: FEZANDIMO_RECTS */
-    uint32_t *spans, size_t span_count,       /* work slice 5: FEZANDIMO_SPANS */
-    uint32_t *plane, size_t plane_count,      /* work slice 6: FEZANDIMO_PLANE */
-    uint8_t *bytes, size_t byte_count,        /* work slice 7: FEZANDIMO_BYTES */
+    uint32_t *spans, size_t span_count,       /* work slice 4: FEZANDIMO_SPANS */
+    uint8_t *bytes, size_t byte_count,        /* work slice 5: FEZANDIMO_BYTES */
     uint8_t *out, size_t out_count);          /* the record */
 
 /* The table from a lent plane, which has no name. */

@@ -55,7 +55,7 @@ pub struct Port<'a> {
 impl<'a> Port<'a> {
     pub fn new(input: &'a Input) -> Self {
         let (sizes, numbers) = match input {
-            Input::Sheet(_) => (SHEET_SIZES.as_slice(), 7),
+            Input::Sheet(_) => (SHEET_SIZES.as_slice(), 5),
             Input::Plane(_) => (LENT_SIZES.as_slice(), 4),
             Input::Text(_) => ([].as_slice(), 0),
         };

@@ -9,7 +9,7 @@ from ctypes import POINTER, c_size_t, c_uint8, c_uint32, c_uint64
 from typing import NamedTuple
 
 # The least elements of the work slices, by their number.
-_SHEET = ((c_uint32, 15360),) * 4 + ((c_uint32, 4096), (c_uint32, 2048), (c_uint32, 4160), (c_uint8, 61444))
+_SHEET = ((c_uint32, 15360),) * 4 + ((c_uint32, 2048), (c_uint8, 61444))
 _PLANE = ((c_uint32, 4160), (c_uint32, 2048), (c_uint32, 4160), (c_uint32, 12480))
 
 # The lists of a lent plane: rows, kinds, regions, offsets, sizes, bytes.

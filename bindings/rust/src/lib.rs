@@ -6,7 +6,6 @@ use std::fmt;
 
 /// The elements of the work slices.
 const LAYER: usize = 15_360;
-const RECTS: usize = 4_096;
 const SPANS: usize = 2_048;
 const PLANE: usize = 4_160;
 const SLOTS: usize = 12_480;
@@ -53,7 +52,6 @@ pub struct LentPlane<'a> {
 /// A reader with its work slices: one for any number of sheets and planes.
 pub struct Reader {
     layers: [Vec<u32>; 4],
-    rects: Vec<u32>,
     spans: Vec<u32>,
     plane: Vec<u32>,
     upright: Vec<u32>,
@@ -71,7 +69,6 @@ impl Reader {
     pub fn new() -> Self {
         Self {
             layers: [LAYER; 4].map(|count| vec![0; count]),
-            rects: vec![0; RECTS],
             spans: vec![0; SPANS],
             plane: vec![0; PLANE],
             upright: vec![0; PLANE],
@@ -97,12 +94,8 @@ impl Reader {
                 bodies.len(),
                 grid.as_mut_ptr(),
                 grid.len(),
-                self.rects.as_mut_ptr(),
-                self.rects.len(),
                 self.spans.as_mut_ptr(),
                 self.spans.len(),
-                self.plane.as_mut_ptr(),
-                self.plane.len(),
                 self.bytes.as_mut_ptr(),
                 self.bytes.len(),
                 out.as_mut_ptr(),

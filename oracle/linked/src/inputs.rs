@@ -91,7 +91,7 @@ fn ended<'a>(
 
 impl Input for Drawn {
     const SIZES: &'static [usize] = &SHEET_SIZES;
-    const NUMBERS: usize = 7;
+    const NUMBERS: usize = 5;
 
     type Rust = Answer;
 

@@ -208,12 +208,8 @@ unsafe extern "C" fn fezandimo_read_sheet(
     body_count: usize,
     grid: *mut u32,
     grid_count: usize,
-    rects: *mut u32,
-    rect_count: usize,
     spans: *mut u32,
     span_count: usize,
-    plane: *mut u32,
-    plane_count: usize,
     bytes: *mut u8,
     byte_count: usize,
     out: *mut u8,
@@ -224,9 +220,7 @@ unsafe extern "C" fn fezandimo_read_sheet(
         (thins, thin_count),
         (bodies, body_count),
         (grid, grid_count),
-        (rects, rect_count),
         (spans, span_count),
-        (plane, plane_count),
     ];
     let bytes = [(bytes, byte_count)];
     let call = unsafe { call(&numbers, &bytes, &SHEET_SIZES, (out, out_count)) };

@@ -40,12 +40,8 @@ unsafe extern "C" {
         body_count: usize,
         grid: *mut u32,
         grid_count: usize,
-        rects: *mut u32,
-        rect_count: usize,
         spans: *mut u32,
         span_count: usize,
-        plane: *mut u32,
-        plane_count: usize,
         bytes: *mut u8,
         byte_count: usize,
         out: *mut u8,
@@ -85,12 +81,12 @@ unsafe extern "C" {
     ) -> SplitAnswer;
 }
 
-/// The least elements of the whole reader's work slices: text, thins, bodies, grid, rects, spans, plane and bytes.
-pub const SHEET_SIZES: [usize; 8] = [15_360, 15_360, 15_360, 15_360, 4_096, 2_048, 4_160, 61_444];
+/// The least elements of the whole reader's work slices: text, thins, bodies, grid, spans and bytes.
+pub const SHEET_SIZES: [usize; 6] = [15_360, 15_360, 15_360, 15_360, 2_048, 61_444];
 
 /// The whole reader.
 pub fn read_sheet(sheet: &[u8], works: &mut Works, out: &mut Out) -> Answer {
-    let [text, thins, bodies, grid, rects, spans, plane] = works.numbers();
+    let [text, thins, bodies, grid, spans] = works.numbers();
     let [bytes] = works.bytes();
     let out = out.raw();
     unsafe {
@@ -105,12 +101,8 @@ pub fn read_sheet(sheet: &[u8], works: &mut Works, out: &mut Out) -> Answer {
             bodies.1,
             grid.0,
             grid.1,
-            rects.0,
-            rects.1,
             spans.0,
             spans.1,
-            plane.0,
-            plane.1,
             bytes.0,
             bytes.1,
             out.0,

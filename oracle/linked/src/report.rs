@@ -28,7 +28,7 @@ const NOT_SPLIT: Reach = No("utils Split.splitOf, which split_values promises: 1
 const NO_SPLIT: Reach = No("an answer of the split");
 const TWO_SIZES: Reach = No("clauses OnlyTwoSizes.only-two-sizes: checks 8 and 12 alone");
 const FOUR: Reach = No("lent_builder LentEnd.lentSizes: four work slices");
-const EIGHT: Reach = No("builder SheetEnd.sheetSizes: eight work slices");
+const SIX: Reach = No("builder SheetEnd.sheetSizes: six work slices");
 const HAS_ROW: Reach =
     No("policies DrawnNotEmpty.walked-not-empty: the main crossing has a line row");
 const HAS_CORNERS: Reach =
@@ -42,7 +42,7 @@ const ONE_LINE: Reach = Open(
 /// A refusal: its name in the counts, what it means, and its reach by the reader, the lent plane and the split.
 type Row = (&'static str, &'static str, [Reach; 3]);
 
-const ROWS: [Row; 62] = [
+const ROWS: [Row; 60] = [
     ("record rows", "", [Yes, Yes, NOT_SPLIT]),
     ("record columns", "", [Yes, Yes, NOT_SPLIT]),
     ("own", "the text's own values", [NO_SPLIT, NO_SPLIT, Yes]),
@@ -102,9 +102,7 @@ const ROWS: [Row; 62] = [
     ("28 3", "work slice 3 too short", [Yes, Yes, NOT_SPLIT]),
     ("28 4", "work slice 4 too short", [Yes, FOUR, NOT_SPLIT]),
     ("28 5", "work slice 5 too short", [Yes, FOUR, NOT_SPLIT]),
-    ("28 6", "work slice 6 too short", [Yes, FOUR, NOT_SPLIT]),
-    ("28 7", "work slice 7 too short", [Yes, FOUR, NOT_SPLIT]),
-    ("28 *", "another slice", [EIGHT, FOUR, NOT_SPLIT]),
+    ("28 *", "another slice", [SIX, FOUR, NOT_SPLIT]),
 ];
 
 /// The counts of the three entries: the reader, the lent plane and the split.

@@ -133,7 +133,7 @@ fn wrong_planes() {
 
 #[test]
 fn wrong_sheets() {
-    for wrong in FAULTS.into_iter().chain(of_works(8)) {
+    for wrong in FAULTS.into_iter().chain(of_works(6)) {
         let why = compared_sheets(wrong).expect_err(&format!("{wrong:?}"));
         assert!(why.contains("\nsheet ") && why.contains(&said(wrong)), "{wrong:?}: {why}");
     }
@@ -192,7 +192,7 @@ fn cut_sheets() {
         (Wrong::Total, 75),
         (Wrong::End(0), 75),
         (Wrong::TooShortEarly, 75),
-        (Wrong::NotCleared(7), 0),
+        (Wrong::NotCleared(5), 0),
         (Wrong::ShortLast, 0),
     ];
     for (wrong, most) in faults {
