@@ -8,8 +8,8 @@ use Rattle.lists.specs.Choose.{choose}
 use Rattle.lists.specs.Line.{storeAt}
 use Rattle.lists.specs.OneOf.{anyAt}
 use Rattle.lists.specs.Turns.{turns}
-use Rattle.layers.specs.Grid.{carriedCode}
-use Rattle.layers.specs.declared.Stroke.{Stroke}
+use Rattle.grid_layer.specs.Grid.{carriedCode}
+use Rattle.grid_layer.specs.declared.Stroke.{Stroke}
 
 -- the line's own character stays, wherever the line is carried across it
 abbrev pub LineStays : Stroke → Type 0

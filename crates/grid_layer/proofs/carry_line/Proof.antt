@@ -1,15 +1,15 @@
--- `layers::carry_line` meets its contract. The invariant: the first k characters of the line are carried.
+-- `grid_layer::carry_line` meets its contract. The invariant: the first k characters of the line are carried.
 use borrow.Author.Needs.{needs}
 use mathlib.Core.Path.{sym, _∙_}
 use Prim.Native.Nat.{ℕ, _+_, _-_, _*_}
 use native.Mathlib.Omega.{arith}
 use Rattle.lists.specs.Line.{storeAt}
-use Rattle.layers.specs.Grid.{carriedCode}
-use Rattle.layers.proofs.CarryLaws.{line-carried, line-stays}
+use Rattle.grid_layer.specs.Grid.{carriedCode}
+use Rattle.grid_layer.proofs.CarryLaws.{line-carried, line-stays}
 use Rattle.layers.proofs.SizeLaws.{Inside}
 use Rattle.layers.proofs.Turning.{Turning, turning-start, turning-more, turning-end}
-use Rattle.layers.proofs.carry_line.Statement.{statement}
-use Rattle.layers.proofs.carry_line.Tie as tie
+use Rattle.grid_layer.proofs.carry_line.Statement.{statement}
+use Rattle.grid_layer.proofs.carry_line.Tie as tie
 
 abbrev Inv-loop : tie.InvT-loop
 Inv-loop text thins bodies grid₀ d base stride n off line k₀ grid k = Turning (storeAt (λ i. base + i * stride) (carriedCode d off n)) n grid₀ grid k

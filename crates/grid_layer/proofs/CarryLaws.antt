@@ -12,9 +12,9 @@ use Rattle.lists.specs.Turns.{turns}
 use Rattle.lists.proofs.LineLaws.{LineLaw, stores-length, stores-off, stores-on}
 use Rattle.lists.proofs.OneOfLaws.{any-ext}
 use Rattle.lists.proofs.Tests.{by-flag}
-use Rattle.layers.specs.Grid.{across, down, carriedCode, carriedAt}
-use Rattle.layers.specs.Passes.{LineStays, lineCarried}
-use Rattle.layers.specs.declared.Stroke.{Stroke}
+use Rattle.grid_layer.specs.Grid.{across, down, carriedCode, carriedAt}
+use Rattle.grid_layer.specs.Passes.{LineStays, lineCarried}
+use Rattle.grid_layer.specs.declared.Stroke.{Stroke}
 
 -- the line's own character stays
 pub own-stays : (d : Stroke) → LineStays d → (off n k : ℕ) (s : List ℕ) (at : ℕ) → getD s at 0 ≡ d .line → s ≡ set s at (carriedCode d off n k (getD s at 0))

@@ -1,4 +1,4 @@
--- `layers::has_code` meets its contract. The invariant: none of the first k places holds the code.
+-- `grid_layer::has_code` meets its contract. The invariant: none of the first k places holds the code.
 use borrow.Author.Needs.{needs}
 use mathlib.Core.Path.{_≡_, sym}
 use mathlib.Core.Bool.{false}
@@ -9,8 +9,8 @@ use lib.ListN.{length, getD}
 use borrow.Author.Tests.{eq-eqb, ne-eqb}
 use Rattle.lists.specs.OneOf.{anyAt}
 use Rattle.lists.proofs.OneOfLaws.{any-none, any-more, any-found}
-use Rattle.layers.proofs.has_code.Statement.{statement}
-use Rattle.layers.proofs.has_code.Tie as tie
+use Rattle.grid_layer.proofs.has_code.Statement.{statement}
+use Rattle.grid_layer.proofs.has_code.Tie as tie
 
 abbrev Inv-loop : tie.InvT-loop
 Inv-loop s base stride n code k₀ k = (k ≤ n) × (anyAt (λ j. eqb (getD s (base + j * stride) 0) code) k ≡ false)

@@ -1,7 +1,7 @@
--- `layers::carried` meets its contract.
+-- `grid_layer::carried` meets its contract.
 use borrow.Author.Needs.{needs}
-use Rattle.layers.proofs.carried.Statement.{statement}
-use Rattle.layers.proofs.carried.Tie as tie
+use Rattle.grid_layer.proofs.carried.Statement.{statement}
+use Rattle.grid_layer.proofs.carried.Tie as tie
 
 array-read-g : tie.Need-array-read-g
 array-read-g c = search needs

@@ -1,11 +1,11 @@
--- `layers::carried_code` meets its contract.
+-- `grid_layer::carried_code` meets its contract.
 use borrow.Author.Needs.{needs}
 use Prim.Native.Nat.{_+_}
 use native.Mathlib.Omega.{arith}
 use borrow.Author.Tests.{eq-eqb, ne-eqb, lt-ltb, le-ltb}
-use Rattle.layers.specs.Grid.{carriedCode}
-use Rattle.layers.proofs.carried_code.Statement.{statement}
-use Rattle.layers.proofs.carried_code.Tie as tie
+use Rattle.grid_layer.specs.Grid.{carriedCode}
+use Rattle.grid_layer.proofs.carried_code.Statement.{statement}
+use Rattle.grid_layer.proofs.carried_code.Tie as tie
 
 returns : tie.Need-returns
 unfolding carriedCode

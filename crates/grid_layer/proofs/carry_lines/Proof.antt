@@ -1,13 +1,13 @@
--- `layers::carry_lines` meets its contract. The invariant: the first j lines are carried.
+-- `grid_layer::carry_lines` meets its contract. The invariant: the first j lines are carried.
 use borrow.Author.Needs.{needs}
 use Prim.Native.Nat.{ℕ, _-_, _<_}
 use native.Mathlib.Omega.{arith}
 use Rattle.lists.specs.Line.{placed}
-use Rattle.layers.specs.Passes.{lineCarried}
+use Rattle.grid_layer.specs.Passes.{lineCarried}
 use Rattle.layers.proofs.SizeLaws.{Inside}
 use Rattle.layers.proofs.Turning.{Turning, turning-start, turning-more, turning-end}
-use Rattle.layers.proofs.carry_lines.Statement.{statement}
-use Rattle.layers.proofs.carry_lines.Tie as tie
+use Rattle.grid_layer.proofs.carry_lines.Statement.{statement}
+use Rattle.grid_layer.proofs.carry_lines.Tie as tie
 
 abbrev Inv-loop : tie.InvT-loop
 Inv-loop text thins bodies grid₀ d base across m stride n off j₀ grid j = Turning (λ i. lineCarried d off (placed base across stride i) n) m grid₀ grid j

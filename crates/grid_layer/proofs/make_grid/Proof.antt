@@ -1,15 +1,15 @@
--- `layers::make_grid` meets its contract.
+-- `grid_layer::make_grid` meets its contract.
 use borrow.Author.Needs.{needs}
 use mathlib.Core.List.{List}
 use Prim.Native.Nat.{ℕ, _+_, _*_, _<_}
 use native.Mathlib.Omega.{arith}
 use lib.ListN.{length}
 use Rattle.layers.specs.Sizes.{LayersOf}
 use Rattle.layers.proofs.SizeLaws.{layers-again, corner-in, rows-in, columns-in}
-use Rattle.layers.proofs.CarryLaws.{across-stays, down-stays}
-use Rattle.layers.proofs.GridLaws.{grid-canvas}
-use Rattle.layers.proofs.make_grid.Statement.{statement}
-use Rattle.layers.proofs.make_grid.Tie as tie
+use Rattle.grid_layer.proofs.CarryLaws.{across-stays, down-stays}
+use Rattle.grid_layer.proofs.GridLaws.{grid-canvas}
+use Rattle.grid_layer.proofs.make_grid.Statement.{statement}
+use Rattle.grid_layer.proofs.make_grid.Tie as tie
 
 sub-columns : tie.Need-sub-columns
 sub-columns c = search needs

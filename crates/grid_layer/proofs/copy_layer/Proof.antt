@@ -1,4 +1,4 @@
--- `layers::copy_layer` meets its contract. The invariant: the first i characters are copied.
+-- `grid_layer::copy_layer` meets its contract. The invariant: the first i characters are copied.
 use borrow.Author.Needs.{needs}
 use mathlib.Core.Path.{_≡_, refl, ap, _∙_}
 use mathlib.Core.List.{_++_}
@@ -6,8 +6,8 @@ use Prim.Native.Nat.{ℕ, _-_, _≤_}
 use native.Mathlib.Omega.{arith}
 use lib.ListN.{length, take, drop, length-set}
 use Rattle.lists.proofs.TurnsLaws.{pass-more}
-use Rattle.layers.proofs.copy_layer.Statement.{statement}
-use Rattle.layers.proofs.copy_layer.Tie as tie
+use Rattle.grid_layer.proofs.copy_layer.Statement.{statement}
+use Rattle.grid_layer.proofs.copy_layer.Tie as tie
 
 abbrev Inv-loop : tie.InvT-loop
 Inv-loop src dst₀ n i₀ dst i = (i ≤ n) × ((length dst ≡ length dst₀) × (dst ≡ take i src ++ drop i dst₀))

@@ -8,7 +8,7 @@ use Rattle.lists.specs.OneOf.{anyAt}
 use Rattle.lists.specs.Picture.{Picture, inRect}
 use Rattle.model.specs.Box.{─, │, ├, ┤, ┬, ┴, ┼, blank}
 use Rattle.model.specs.declared.Rect.{Rect}
-use Rattle.layers.specs.declared.Stroke.{Stroke}
+use Rattle.grid_layer.specs.declared.Stroke.{Stroke}
 
 -- along a row: ─ crosses │, and ├ ┤ are its ends
 abbrev pub across : Stroke

@@ -9,13 +9,13 @@ use Rattle.lists.specs.Picture.{pic, canvas}
 use Rattle.lists.proofs.PictureLaws.{within-in}
 use Rattle.lists.proofs.RectLaws.{by-rows, by-columns}
 use Rattle.model.specs.declared.Rect.{Rect}
-use Rattle.layers.specs.Grid.{across, down, carriedAt, rowsCarried, columnsCarried, gridPicture}
-use Rattle.layers.specs.Passes.{lineCarried, linesCarried}
+use Rattle.grid_layer.specs.Grid.{across, down, carriedAt, rowsCarried, columnsCarried, gridPicture}
+use Rattle.grid_layer.specs.Passes.{lineCarried, linesCarried}
 use Rattle.layers.specs.Sizes.{BodyIn}
-use Rattle.layers.specs.declared.Stroke.{Stroke}
+use Rattle.grid_layer.specs.declared.Stroke.{Stroke}
 use Rattle.layers.proofs.SizeLaws.{body-fits}
 use Rattle.layers.proofs.CanvasLaws.{pass-is, copied-canvas}
-use Rattle.layers.proofs.CarryLaws.{carried-ext, line-law}
+use Rattle.grid_layer.proofs.CarryLaws.{carried-ext, line-law}
 
 -- a line of the canvas, whose kth character stands in column u k of row v k
 line-is : (w h : ℕ) (s : List ℕ) (d : Stroke) (off n : ℕ) (u v : ℕ → ℕ) → ((k : ℕ) → k < n → (u k < w) × (v k < h))

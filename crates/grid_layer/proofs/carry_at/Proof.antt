@@ -1,8 +1,8 @@
--- `layers::carry_at` meets its contract.
+-- `grid_layer::carry_at` meets its contract.
 use borrow.Author.Needs.{needs}
-use Rattle.layers.proofs.CarryLaws.{own-stays}
-use Rattle.layers.proofs.carry_at.Statement.{statement}
-use Rattle.layers.proofs.carry_at.Tie as tie
+use Rattle.grid_layer.proofs.CarryLaws.{own-stays}
+use Rattle.grid_layer.proofs.carry_at.Statement.{statement}
+use Rattle.grid_layer.proofs.carry_at.Tie as tie
 
 mul-if1 : tie.Need-mul-if1
 mul-if1 c = search needs
