@@ -1,11 +1,11 @@
--- `sketch::put_cells` meets its contract.
+-- `plane_lines::put_cells` meets its contract.
 use mathlib.Core.Path.{refl, _∙_}
 use Prim.Native.Nat.{_-_}
-use Rattle.sketch.proofs.PlaneLaws.{Celling, celling-start, celling-more, celling-end}
+use Rattle.plane_lines.proofs.PlaneLaws.{Celling, celling-start, celling-more, celling-end}
 use native.Mathlib.Omega.{arith}
 use borrow.Author.Needs.{needs}
-use Rattle.sketch.proofs.put_cells.Statement.{statement}
-use Rattle.sketch.proofs.put_cells.Tie as tie
+use Rattle.plane_lines.proofs.put_cells.Statement.{statement}
+use Rattle.plane_lines.proofs.put_cells.Tie as tie
 
 abbrev Inv-loop : tie.InvT-loop
 Inv-loop out₀ at plane row count n₀ i₀ t8 out n i = Celling out₀ n₀ plane row count out n i

@@ -14,7 +14,7 @@ use Rattle.print.specs.Decimal.{decimal, spaced, listed, Written}
 use Rattle.print.specs.Lines.{lineFeed, countLine}
 use Rattle.print.proofs.DecimalLaws.{spaced-snoc}
 use Rattle.print.proofs.WrittenLaws.{written-nil, written-then, written-within, written-as}
-use Rattle.sketch.specs.Planes.{planeWord, cellsLine, cellsLines, planeLines, cellsBytes, planeBytes}
+use Rattle.plane_lines.specs.Planes.{planeWord, cellsLine, cellsLines, planeLines, cellsBytes, planeBytes}
 
 -- one row more
 lines-snoc : (P : Plane) (r : List Cell) → cellsLines (P ++ (r ∷ [])) ≡ cellsLines P ++ cellsLine r

@@ -1,10 +1,10 @@
--- `sketch::put_upright` meets its contract.
+-- `plane_lines::put_upright` meets its contract.
 use Rattle.print.proofs.WrittenLaws.{written-then, written-within}
-use Rattle.sketch.specs.Planes.{uprightLines}
+use Rattle.plane_lines.specs.Planes.{uprightLines}
 use native.Mathlib.Omega.{arith}
 use borrow.Author.Needs.{needs}
-use Rattle.sketch.proofs.put_upright.Statement.{statement}
-use Rattle.sketch.proofs.put_upright.Tie as tie
+use Rattle.plane_lines.proofs.put_upright.Statement.{statement}
+use Rattle.plane_lines.proofs.put_upright.Tie as tie
 
 slice-aggregate-put-three : tie.Need-slice-aggregate-put-three
 slice-aggregate-put-three c = search needs

@@ -1,4 +1,4 @@
--- `sketch::put_cell` meets its contract.
+-- `plane_lines::put_cell` meets its contract.
 use mathlib.Core.Path.{ap, _∙_}
 use mathlib.Core.List.{_∷_}
 use Prim.Native.Nat.{ℕ}
@@ -6,8 +6,8 @@ use Rattle.model.specs.Cells.{cellNumber}
 use Rattle.print.specs.Decimal.{decimal}
 use Rattle.print.proofs.WrittenLaws.{written-as}
 use borrow.Author.Needs.{needs}
-use Rattle.sketch.proofs.put_cell.Statement.{statement}
-use Rattle.sketch.proofs.put_cell.Tie as tie
+use Rattle.plane_lines.proofs.put_cell.Statement.{statement}
+use Rattle.plane_lines.proofs.put_cell.Tie as tie
 
 cell-at-requires : tie.Need-cell-at-requires
 cell-at-requires c κs = search needs

@@ -1,11 +1,11 @@
--- `sketch::put_plane` meets its contract.
+-- `plane_lines::put_plane` meets its contract.
 use Prim.Native.Nat.{_-_}
 use mathlib.Core.Path.{_∙_}
-use Rattle.sketch.proofs.PlaneLaws.{Rowing, rowing-start, rowing-room, rowing-more, rowing-end}
+use Rattle.plane_lines.proofs.PlaneLaws.{Rowing, rowing-start, rowing-room, rowing-more, rowing-end}
 use native.Mathlib.Omega.{arith}
 use borrow.Author.Needs.{needs}
-use Rattle.sketch.proofs.put_plane.Statement.{statement}
-use Rattle.sketch.proofs.put_plane.Tie as tie
+use Rattle.plane_lines.proofs.put_plane.Statement.{statement}
+use Rattle.plane_lines.proofs.put_plane.Tie as tie
 
 abbrev Inv-loop : tie.InvT-loop
 Inv-loop out₀ at plane n m₀ row₀ out m row = Rowing out₀ m₀ plane n out m row
