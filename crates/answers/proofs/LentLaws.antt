@@ -13,7 +13,7 @@ use Rattle.plane.specs.declared.Stated.{Stated}
 use Rattle.plane.specs.declared.StatedSheet.{StatedSheet}
 use Rattle.plane.specs.declared.StatedSheet.the-variants.{Upright, NotStated}
 use Rattle.print.specs.Lines.{refusedLine}
-use Rattle.sketch.specs.Planes.{uprightLines}
+use Rattle.plane_lines.specs.Planes.{uprightLines}
 use Rattle.answers.specs.LentLines.{sheetPrinted, lentLines}
 
 -- the numbers of an upright sheet, by other names

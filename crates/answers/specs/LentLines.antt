@@ -8,7 +8,7 @@ use Rattle.lent.specs.LentPlane.{LentPlane}
 use Rattle.plane.specs.LentSheet.{lentSheet}
 use Rattle.plane.specs.Sheet.{Sheet}
 use Rattle.print.specs.Lines.{refusedLine}
-use Rattle.sketch.specs.Planes.{uprightLines}
+use Rattle.plane_lines.specs.Planes.{uprightLines}
 
 -- the upright sheet, or why there is none
 abbrev pub sheetPrinted : Reading Sheet → List ℕ

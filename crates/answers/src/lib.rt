@@ -9,7 +9,7 @@ ghost use Rattle.model.specs.Policies.{policyNumber, orientationNumber};
 ghost use Rattle.utils.specs.Split.{answered, Places};
 ghost use Rattle.cells.specs.Plane.{planeIn, PlaneFits};
 ghost use Rattle.print.specs.Decimal.{Written};
-ghost use Rattle.sketch.specs.Planes.{uprightLines, uprightBytes};
+ghost use Rattle.plane_lines.specs.Planes.{uprightLines, uprightBytes};
 ghost use Rattle.lines.specs.Room.{lineBytes};
 ghost use Rattle.answers.specs.SplitLines.{printed, splitLine};
 ghost use Rattle.answers.specs.LentLines.{lentLines};
@@ -47,7 +47,7 @@ fn put_stated(out: &mut [u8], at: usize, s: Stated, upright: &[u32]) -> usize
 {
     let orientation = s.orientation;
     let policy = s.policy;
-    sketch::put_upright(
+    plane_lines::put_upright(
         out,
         at,
         model::orientation_number(orientation),

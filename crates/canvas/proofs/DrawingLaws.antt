@@ -12,7 +12,7 @@ use Rattle.model.specs.Refusals.{Reading}
 use Rattle.model.specs.declared.Refusal.{Refusal}
 use Rattle.model.specs.declared.Refusal.the-variants.{InvalidUtf8}
 use Rattle.layers.specs.Body.{bodyPicture}
-use Rattle.layers.specs.Grid.{gridPicture}
+use Rattle.grid_layer.specs.Grid.{gridPicture}
 use Rattle.layers.specs.Sizes.{BodyIn}
 use Rattle.layers.specs.Thin.{thinPicture}
 use Rattle.outline.specs.Outline.{outlineOf}

@@ -8,7 +8,7 @@ use utf8::Checked;
 ghost use mathlib.Core.Path.{_≡_};
 ghost use Rattle.lists.specs.Picture.{canvas};
 ghost use Rattle.layers.specs.Body.{bodyPicture};
-ghost use Rattle.layers.specs.Grid.{gridPicture};
+ghost use Rattle.grid_layer.specs.Grid.{gridPicture};
 ghost use Rattle.layers.specs.Sizes.{LayersOf, BodyIn};
 ghost use Rattle.layers.specs.Thin.{thinPicture};
 ghost use Rattle.scan.specs.Canvas.{rowsAt};
@@ -39,7 +39,7 @@ fn make_layers(
 {
     layers::make_thin(text, thins, bodies, grid, width, rows);
     layers::make_body(text, thins, bodies, grid, width, rows, r);
-    layers::make_grid(text, thins, bodies, grid, width, rows, r);
+    grid_layer::make_grid(text, thins, bodies, grid, width, rows, r);
 }
 
 // A refusal of a text, which number 1 comes before.

@@ -36,8 +36,8 @@ use Rattle.walks.specs.Walk.{walkFrom}
 use Rattle.frames.specs.Body.{bodyOf}
 use Rattle.outline.specs.Outline.{searchFrom, namedBy, tableOf, outlineBy}
 use Rattle.layers.specs.Body.{topOf, bodyCode, shadedCode}
-use Rattle.layers.specs.Grid.{carriedCode}
-use Rattle.layers.specs.Passes.{lineCarried}
+use Rattle.grid_layer.specs.Grid.{carriedCode}
+use Rattle.grid_layer.specs.Passes.{lineCarried}
 use Rattle.layers.specs.Thin.{thinOf}
 use Rattle.regions.specs.Regions.{regionsBy}
 use Rattle.lookup.specs.Lookup.{regionFrom}

@@ -34,7 +34,7 @@ use Rattle.step.specs.PlaneStep.{planeOf}
 use Rattle.step.specs.declared.PlaneMade.{PlaneMade}
 use Rattle.step.specs.declared.PlaneMade.the-variants.{Made, NotMade}
 use Rattle.print.specs.Lines.{refusedLine}
-use Rattle.sketch.specs.Planes.{planeLines}
+use Rattle.plane_lines.specs.Planes.{planeLines}
 use Rattle.sketch.specs.Drawings.{layersLines, countedLines, nameLine, Layer, Texts, Regions}
 use Rattle.drawings.specs.DrawingLines.{planePrinted, regionsLines, drawingLines}
 

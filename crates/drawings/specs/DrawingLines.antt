@@ -14,7 +14,7 @@ use Rattle.text_planes.specs.RegionTexts.{Regions, regionTextsOf}
 use Rattle.step.specs.PlaneStep.{planeOf}
 use Rattle.print.specs.Lines.{refusedLine}
 use Rattle.sketch.specs.Drawings.{layersLines, countedLines, nameLine}
-use Rattle.sketch.specs.Planes.{planeLines}
+use Rattle.plane_lines.specs.Planes.{planeLines}
 
 -- the plane, or why there is none
 abbrev pub planePrinted : Reading Plane → List ℕ

@@ -13,7 +13,7 @@ ghost use Rattle.step.specs.PlaneStep.{planeOf};
 ghost use Rattle.text_planes.specs.RegionTexts.{regionTextsOf};
 ghost use Rattle.print.specs.Decimal.{Written};
 ghost use Rattle.sketch.specs.Drawings.{Layer};
-ghost use Rattle.sketch.specs.Planes.{planeBytes};
+ghost use Rattle.plane_lines.specs.Planes.{planeBytes};
 ghost use Rattle.lines.specs.Room.{lineBytes};
 ghost use Rattle.drawings.specs.DrawingLines.{planePrinted, regionsLines, regionsBytes, drawingLines};
 
@@ -34,7 +34,7 @@ fn put_step(
     let mut found = [0u32; CANVAS_SIZE];
     let mut plane = [0u32; 4160];
     match step::make_plane(o, grid, w, h, rects, count, &mut found, &mut plane) {
-        PlaneMade::Made(n) => sketch::put_plane(out, at, &plane, n),
+        PlaneMade::Made(n) => plane_lines::put_plane(out, at, &plane, n),
         PlaneMade::NotMade(r) => print::put_refusal(out, at, r),
     }
 }

@@ -4,6 +4,4 @@ pub mod SizeLaws
 pub mod CanvasLaws
 pub mod ThinLaws
 pub mod BodyLaws
-pub mod CarryLaws
-pub mod GridLaws
 pub mod Examples

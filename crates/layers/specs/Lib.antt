@@ -1,5 +1,3 @@
 pub mod Thin
 pub mod Body
-pub mod Grid
 pub mod Sizes
-pub mod Passes

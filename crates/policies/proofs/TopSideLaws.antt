@@ -12,8 +12,8 @@ use Rattle.lists.proofs.RectLaws.{rect-is}
 use Rattle.model.specs.Box.{┬}
 use Rattle.model.specs.declared.Rect.{Rect}
 use Rattle.layers.specs.Body.{topOf, bodyCode, bodyPicture}
-use Rattle.layers.specs.Grid.{across, down, carriedCode, carriedAt, rowsCarried, columnsCarried, gridPicture}
-use Rattle.layers.specs.declared.Stroke.{Stroke}
+use Rattle.grid_layer.specs.Grid.{across, down, carriedCode, carriedAt, rowsCarried, columnsCarried, gridPicture}
+use Rattle.grid_layer.specs.declared.Stroke.{Stroke}
 
 -- a character that is not changed where its line is carried across stays whether or not it is
 stays : (d : Stroke) (off n : ℕ) (g : ℕ → ℕ) (k c : ℕ) → g k ≡ c → carriedCode d off n k c ≡ c → carriedAt d off n g k ≡ c

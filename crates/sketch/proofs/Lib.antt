@@ -1,4 +1,3 @@
 -- Laws of what is printed of a drawing.
 pub mod LayerLaws
 pub mod RegionLaws
-pub mod PlaneLaws

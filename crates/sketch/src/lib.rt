@@ -1,17 +1,12 @@
-// The parts of a drawing as the judge of the Rust prints them, into a slice of bytes: layers, regions, the name, planes, and
-// the upright sheet.
+// The parts of a drawing as the judge of the Rust prints them, into a slice of bytes: layers, regions and the name.
 ghost use mathlib.Core.List.{[], _∷_, _++_};
 ghost use Prim.Native.Nat.{_+_, _*_, _≤_, _<_};
 ghost use lib.ListN.{length};
 ghost use Rattle.lists.specs.Picture.{canvas};
-ghost use Rattle.model.specs.Cells.{cellNumber};
-ghost use Rattle.model.specs.Limits.{planeRows, planeCells, planeSize};
 ghost use Rattle.regions.specs.Rects.{rectAt, rectsOf};
-ghost use Rattle.cells.specs.Plane.{cellAt, rowIn, planeIn, PlaneFits};
 ghost use Rattle.cells.specs.Spans.{offsetAt, lengthAt, textAt, textsIn};
-ghost use Rattle.print.specs.Decimal.{decimal, Written};
+ghost use Rattle.print.specs.Decimal.{Written};
 ghost use Rattle.print.specs.Lines.{lineFeed};
-ghost use Rattle.sketch.specs.Planes.{cellsLine, planeLines, cellsBytes, planeBytes, uprightLines, uprightBytes};
 ghost use Rattle.sketch.specs.Drawings.{rowTo, layerLines, layersLines, layersBytes, rowBytes, Layer, numberWord, rectWords, regionLine, countedLines, regionBytes, nameLine, nameBytes, Texts, Regions};
 
 // Row y of a layer, and a line feed.
@@ -157,66 +152,4 @@ pub fn put_name(
     }
     let a = print::put_word(out, at, b"name ");
     put_text(out, a, bytes, spans, 0)
-}
-
-// A blank and the number of cell i of a row.
-fn put_cell(out: &mut [u8], at: usize, plane: &[u32], row: usize, i: usize) -> usize
-    requires { ⌜ (at + 21 ≤ length (now out)) × (row < planeRows) × (i < planeCells) × (planeSize ≤ length (now plane)) ⌝ }
-    ensures { λ r. ⌜ Written (now (out .entry)) (now (out .exit)) at (0x20 ∷ decimal (cellNumber (cellAt (now (plane .entry)) row i))) 21 r ⌝ }
-{
-    let c = cells::cell_at(plane, row, i);
-    print::put_behind(out, at, model::cell_number(c) as u64)
-}
-
-// The cells of a row, and a line feed.
-fn put_cells(out: &mut [u8], at: usize, plane: &[u32], row: usize) -> usize
-    requires { ⌜ (at + cellsBytes ≤ length (now out)) × PlaneFits (now plane) (row + 1) ⌝ }
-    ensures { λ r. ⌜ Written (now (out .entry)) (now (out .exit)) at (cellsLine (rowIn (now (plane .entry)) row)) cellsBytes r ⌝ }
-{
-    let count = plane[row] as usize;
-    let mut n = print::put_number(out, at, count as u64);
-    let mut i = 0;
-    while i < count {
-        n = put_cell(out, n, plane, row, i);
-        i += 1;
-    }
-    print::put_word(out, n, b"\n")
-}
-
-// A plane of n rows.
-pub fn put_plane(out: &mut [u8], at: usize, plane: &[u32], n: usize) -> usize
-    requires { ⌜ (at + planeBytes ≤ length (now out)) × PlaneFits (now plane) n ⌝ }
-    ensures { λ r. ⌜ Written (now (out .entry)) (now (out .exit)) at (planeLines (planeIn (now (plane .entry)) n)) planeBytes r ⌝ }
-{
-    let mut m = print::put_count(out, at, b"plane ", n);
-    let mut row = 0;
-    while row < n {
-        m = put_cells(out, m, plane, row);
-        row += 1;
-    }
-    m
-}
-
-// The numbers of an upright sheet of n rows, and its plane.
-pub fn put_upright(
-    out: &mut [u8],
-    at: usize,
-    orientation: u32,
-    policy: u32,
-    rules: u64,
-    plane: &[u32],
-    n: usize,
-) -> usize
-    requires { ⌜ (at + uprightBytes ≤ length (now out)) × PlaneFits (now plane) n ⌝ }
-    ensures { λ r. ⌜ Written (now (out .entry)) (now (out .exit)) at (uprightLines orientation policy rules (planeIn (now (plane .entry)) n)) uprightBytes r ⌝ }
-{
-    let a = print::put_three(
-        out,
-        at,
-        b"upright ",
-        orientation as u64,
-        policy as u64,
-        rules,
-    );
-    put_plane(out, a, plane, n)
 }

@@ -2,7 +2,7 @@
 use mathlib.Core.Path.{ap, _∙_}
 use Rattle.lists.specs.Picture.{Picture, canvas}
 use Rattle.layers.specs.Body.{bodyPicture}
-use Rattle.layers.specs.Grid.{gridPicture}
+use Rattle.grid_layer.specs.Grid.{gridPicture}
 use borrow.Author.Needs.{needs}
 use Rattle.canvas.proofs.make_layers.Statement.{statement}
 use Rattle.canvas.proofs.make_layers.Tie as tie

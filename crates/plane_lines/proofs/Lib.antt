@@ -1,0 +1,2 @@
+-- Laws of the lines of planes.
+pub mod PlaneLaws
