@@ -8,12 +8,11 @@ use Rattle.drawn_planes.specs.DrawnTable.{DrawnRoom}
 use Rattle.builder.specs.SheetEnd.{sheetSizes}
 
 -- the slices of a drawing's table
-pub sheet-room : (t m b g spans d bytes : List ℕ) → Roomy (t ∷ m ∷ b ∷ g ∷ spans ∷ d ∷ bytes ∷ []) sheetSizes → DrawnRoom t m b g bytes spans d
-sheet-room t m b g spans d bytes e =
-    let a = at-least 0 (map length (t ∷ m ∷ b ∷ g ∷ spans ∷ d ∷ bytes ∷ [])) sheetSizes e in
+pub sheet-room : (t m b g spans bytes : List ℕ) → Roomy (t ∷ m ∷ b ∷ g ∷ spans ∷ bytes ∷ []) sheetSizes → DrawnRoom t m b g bytes spans
+sheet-room t m b g spans bytes e =
+    let a = at-least 0 (map length (t ∷ m ∷ b ∷ g ∷ spans ∷ bytes ∷ [])) sheetSizes e in
     record {
       layers = record { text = a .0; thin = a .1 .0; body = a .1 .1 .0; grid = a .1 .1 .1 .0 };
       twoEach = a .1 .1 .1 .1 .0;
-      plane = a .1 .1 .1 .1 .1 .0;
-      allTexts = a .1 .1 .1 .1 .1 .1 .0;
+      allTexts = a .1 .1 .1 .1 .1 .0;
     }

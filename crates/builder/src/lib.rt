@@ -3,19 +3,11 @@ use records::Outcome;
 use room::WorkSlices;
 ghost use mathlib.Core.List.{[], _∷_};
 ghost use mathlib.Core.Path.{_≡_};
-ghost use Rattle.lists.specs.Zeros.{zeros};
 ghost use Rattle.room.specs.Room.{Roomy};
 ghost use Rattle.builder.specs.SheetEnd.{sheetSizes, sheetEnd};
 
 // The least lengths of the work slices, in the order in which they are lent.
-const SHEET_SIZES: [usize; 7] = [15360, 15360, 15360, 15360, 2048, 4160, 61444];
-
-fn clear_two(a: &mut [u32], b: &mut [u32])
-    ensures { λ _. ⌜ (now (a .exit) ≡ zeros (now (a .entry))) × (now (b .exit) ≡ zeros (now (b .entry))) ⌝ }
-{
-    lists::clear_u32(a);
-    lists::clear_u32(b);
-}
+const SHEET_SIZES: [usize; 6] = [15360, 15360, 15360, 15360, 2048, 61444];
 
 // The record of a drawing; then the work slices are cleared.
 fn sheet_cleared(
@@ -25,16 +17,15 @@ fn sheet_cleared(
     bodies: &mut [u32],
     grid: &mut [u32],
     spans: &mut [u32],
-    plane: &mut [u32],
     bytes: &mut [u8],
     out: &mut [u8],
 ) -> Outcome
-    requires { ⌜ Roomy (now text ∷ now thins ∷ now bodies ∷ now grid ∷ now spans ∷ now plane ∷ now bytes ∷ []) sheetSizes ⌝ }
-    ensures end { λ r. ⌜ sheetEnd (now (s .entry)) (now (text .entry) ∷ now (thins .entry) ∷ now (bodies .entry) ∷ now (grid .entry) ∷ now (spans .entry) ∷ now (plane .entry) ∷ now (bytes .entry) ∷ []) (now (out .entry)) ≡ record { outcome = r; works = now (text .exit) ∷ now (thins .exit) ∷ now (bodies .exit) ∷ now (grid .exit) ∷ now (spans .exit) ∷ now (plane .exit) ∷ now (bytes .exit) ∷ []; out = now (out .exit) } ⌝ }
+    requires { ⌜ Roomy (now text ∷ now thins ∷ now bodies ∷ now grid ∷ now spans ∷ now bytes ∷ []) sheetSizes ⌝ }
+    ensures end { λ r. ⌜ sheetEnd (now (s .entry)) (now (text .entry) ∷ now (thins .entry) ∷ now (bodies .entry) ∷ now (grid .entry) ∷ now (spans .entry) ∷ now (bytes .entry) ∷ []) (now (out .entry)) ≡ record { outcome = r; works = now (text .exit) ∷ now (thins .exit) ∷ now (bodies .exit) ∷ now (grid .exit) ∷ now (spans .exit) ∷ now (bytes .exit) ∷ []; out = now (out .exit) } ⌝ }
 {
-    let r = drawn_records::sheet_record(s, text, thins, bodies, grid, spans, plane, bytes, out);
+    let r = drawn_records::sheet_record(s, text, thins, bodies, grid, spans, bytes, out);
     ends::clear_four(text, thins, bodies, grid);
-    clear_two(spans, plane);
+    lists::clear_u32(spans);
     lists::clear_u8(bytes);
     r
 }
@@ -47,11 +38,10 @@ pub fn read_sheet(
     bodies: &mut [u32],
     grid: &mut [u32],
     spans: &mut [u32],
-    plane: &mut [u32],
     bytes: &mut [u8],
     out: &mut [u8],
 ) -> Outcome
-    ensures end { λ r. ⌜ sheetEnd (now (s .entry)) (now (text .entry) ∷ now (thins .entry) ∷ now (bodies .entry) ∷ now (grid .entry) ∷ now (spans .entry) ∷ now (plane .entry) ∷ now (bytes .entry) ∷ []) (now (out .entry)) ≡ record { outcome = r; works = now (text .exit) ∷ now (thins .exit) ∷ now (bodies .exit) ∷ now (grid .exit) ∷ now (spans .exit) ∷ now (plane .exit) ∷ now (bytes .exit) ∷ []; out = now (out .exit) } ⌝ }
+    ensures end { λ r. ⌜ sheetEnd (now (s .entry)) (now (text .entry) ∷ now (thins .entry) ∷ now (bodies .entry) ∷ now (grid .entry) ∷ now (spans .entry) ∷ now (bytes .entry) ∷ []) (now (out .entry)) ≡ record { outcome = r; works = now (text .exit) ∷ now (thins .exit) ∷ now (bodies .exit) ∷ now (grid .exit) ∷ now (spans .exit) ∷ now (bytes .exit) ∷ []; out = now (out .exit) } ⌝ }
 {
     let lens = [
         text.len(),
@@ -59,12 +49,11 @@ pub fn read_sheet(
         bodies.len(),
         grid.len(),
         spans.len(),
-        plane.len(),
         bytes.len(),
     ];
     let sizes = SHEET_SIZES;
     match room::work_slices(&lens, &sizes) {
-        WorkSlices::Enough => sheet_cleared(s, text, thins, bodies, grid, spans, plane, bytes, out),
+        WorkSlices::Enough => sheet_cleared(s, text, thins, bodies, grid, spans, bytes, out),
         WorkSlices::Short(r) => Outcome::Refused(r),
     }
 }

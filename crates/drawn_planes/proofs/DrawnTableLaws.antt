@@ -13,7 +13,7 @@ use Rattle.lists.proofs.AnswerLaws.{then-ok}
 use Rattle.lists.proofs.Parts.{part-part}
 use Rattle.lists.proofs.RunLaws.{build-same, length-run}
 use Rattle.lists.proofs.Tests.{by-flag, true-false}
-use Rattle.model.specs.Limits.{canvasSize, planeSize, regionCount, textBytes}
+use Rattle.model.specs.Limits.{canvasSize, regionCount, textBytes}
 use Rattle.model.specs.Refusals.{Reading}
 use Rattle.model.specs.declared.Rect.{Rect}
 use Rattle.model.specs.declared.Refusal.{Refusal}
@@ -126,14 +126,13 @@ module _ (s : List ℕ) (o : Outline) (e : ok o ≡ sheetOf s) {h w : ℕ} {t m 
       let f = size-in in
       record { columns = omega arith; rows = omega arith; size = omega arith }
 
-  pub plane-room : {bytes spans d : List ℕ} → Room t m b g → textBytes + 4 ≤ length bytes → regionCount * 2 ≤ length spans → planeSize ≤ length d
-      → PlaneRoom w h t m g b bytes spans d
-  plane-room a x y z =
+  pub plane-room : {bytes spans : List ℕ} → Room t m b g → textBytes + 4 ≤ length bytes → regionCount * 2 ≤ length spans → PlaneRoom w h t m g b bytes spans
+  plane-room a x y =
       let q = size-in in
       record {
         regions = record { layer = layer-in m (a .thin); size = omega (arith, a .text); fourEach = omega (arith, a .body); allTexts = x; twoEach = y };
         grid = layer-in g (a .grid);
-        plane = z;
+        plane = omega (arith, a .text);
       }
 
   -- its plane

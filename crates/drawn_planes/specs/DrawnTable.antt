@@ -4,7 +4,7 @@ use mathlib.Core.List.{List}
 use Prim.Native.Nat.{ℕ, _+_, _*_, _≤_}
 use lib.ListN.{length, take}
 use Rattle.lists.specs.Answer.{ok, refused, _>>=_}
-use Rattle.model.specs.Limits.{planeSize, regionCount, textBytes}
+use Rattle.model.specs.Limits.{regionCount, textBytes}
 use Rattle.model.specs.Refusals.{Reading}
 use Rattle.cells.specs.Held.{Held}
 use Rattle.cells.specs.Plane.{TextPlane, planeIn}
@@ -49,9 +49,8 @@ abbrev pub DrawnHeld : DrawnRows → List ℕ → List ℕ → List ℕ → Type
 DrawnHeld (Rows n count named) plane bytes spans = Held plane n (take textBytes bytes) spans count × NameIn named (take textBytes bytes) spans count
 DrawnHeld (NotDrawn r) plane bytes spans = Unit {0}
 
--- the work slices: four layers, the texts of the regions, and a plane
-pub record DrawnRoom (t m b g bytes spans d : List ℕ) : Type 0 where
+-- the work slices: four layers, and the texts of the regions
+pub record DrawnRoom (t m b g bytes spans : List ℕ) : Type 0 where
   pub layers : Room t m b g
   pub allTexts : textBytes + 4 ≤ length bytes
   pub twoEach : regionCount * 2 ≤ length spans
-  pub plane : planeSize ≤ length d

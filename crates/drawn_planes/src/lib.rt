@@ -20,11 +20,10 @@ pub fn drawn_plane(
     grid: &mut [u32],
     bytes: &mut [u8],
     spans: &mut [u32],
-    plane: &mut [u32],
 ) -> DrawnRows
-    requires { ⌜ DrawnRoom (now text) (now thins) (now bodies) (now grid) (now bytes) (now spans) (now plane) ⌝ }
-    ensures plane { λ r. ⌜ drawnIn r (now (plane .exit)) (now (bytes .exit)) (now (spans .exit)) ≡ namedPlane (now (s .entry)) ⌝ }
-    ensures held { λ r. ⌜ DrawnHeld r (now (plane .exit)) (now (bytes .exit)) (now (spans .exit)) ⌝ }
+    requires { ⌜ DrawnRoom (now text) (now thins) (now bodies) (now grid) (now bytes) (now spans) ⌝ }
+    ensures plane { λ r. ⌜ drawnIn r (now (text .exit)) (now (bytes .exit)) (now (spans .exit)) ≡ namedPlane (now (s .entry)) ⌝ }
+    ensures held { λ r. ⌜ DrawnHeld r (now (text .exit)) (now (bytes .exit)) (now (spans .exit)) ⌝ }
 {
     match canvas::draw_sheet(s, text, thins, bodies, grid) {
         Drawing::Drawn(rows, columns, _, o) => match text_planes::read_plane(
@@ -37,7 +36,6 @@ pub fn drawn_plane(
             rows,
             bytes,
             spans,
-            plane,
         ) {
             PlaneRead::Rows(n, count) => DrawnRows::Rows(n, count, o.named),
             PlaneRead::NoPlane(r) => DrawnRows::NotDrawn(r),

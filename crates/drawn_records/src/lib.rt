@@ -51,8 +51,8 @@ fn write_drawn(t: Recognized, bytes: &[u8], slots: &[u32], out: &mut [u8]) -> Ou
     records::write_recognized(t, &bytes[0..TEXT_BYTES], slots, out)
 }
 
-// The record of a drawing. Once there is a plane neither the layers nor what took their place are needed: the upright
-// sheet goes where BODY was, the slots where THIN was.
+// The record of a drawing. The plane lies where TEXT was. Once it is there neither the other layers nor what took their
+// place are needed: the upright sheet goes where BODY was, the slots where THIN was.
 pub fn sheet_record(
     s: &[u8],
     text: &mut [u32],
@@ -60,15 +60,14 @@ pub fn sheet_record(
     bodies: &mut [u32],
     grid: &mut [u32],
     spans: &mut [u32],
-    plane: &mut [u32],
     bytes: &mut [u8],
     out: &mut [u8],
 ) -> Outcome
-    requires { ⌜ DrawnRoom (now text) (now thins) (now bodies) (now grid) (now bytes) (now spans) (now plane) ⌝ }
+    requires { ⌜ DrawnRoom (now text) (now thins) (now bodies) (now grid) (now bytes) (now spans) ⌝ }
     ensures outcome { λ r. ⌜ r ≡ outcomeOf (tableRead (walkedPolicy (now (s .entry)))) (length (now (out .entry))) ⌝ }
     ensures out { λ _. ⌜ now (out .exit) ≡ recordOf (tableRead (walkedPolicy (now (s .entry)))) (now (out .entry)) ⌝ }
 {
-    let d = drawn_planes::drawn_plane(s, text, thins, bodies, grid, bytes, spans, plane);
-    let t = table_of(d, plane, bytes, spans, bodies, thins);
+    let d = drawn_planes::drawn_plane(s, text, thins, bodies, grid, bytes, spans);
+    let t = table_of(d, text, bytes, spans, bodies, thins);
     write_drawn(t, bytes, thins, out)
 }

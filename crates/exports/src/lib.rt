@@ -16,15 +16,14 @@ pub extern "C" fn fezandimo_read_sheet(
     bodies: &mut [u32],
     grid: &mut [u32],
     spans: &mut [u32],
-    plane: &mut [u32],
     bytes: &mut [u8],
     out: &mut [u8],
 ) -> Answer
-    ensures answer { λ r. ⌜ r ≡ answerOf (sheetEnd (now (s .entry)) (now (text .entry) ∷ now (thins .entry) ∷ now (bodies .entry) ∷ now (grid .entry) ∷ now (spans .entry) ∷ now (plane .entry) ∷ now (bytes .entry) ∷ []) (now (out .entry)) .outcome) ⌝ }
-    ensures works { λ _. ⌜ (now (text .exit) ∷ now (thins .exit) ∷ now (bodies .exit) ∷ now (grid .exit) ∷ now (spans .exit) ∷ now (plane .exit) ∷ now (bytes .exit) ∷ []) ≡ sheetEnd (now (s .entry)) (now (text .entry) ∷ now (thins .entry) ∷ now (bodies .entry) ∷ now (grid .entry) ∷ now (spans .entry) ∷ now (plane .entry) ∷ now (bytes .entry) ∷ []) (now (out .entry)) .works ⌝ }
-    ensures out { λ _. ⌜ now (out .exit) ≡ sheetEnd (now (s .entry)) (now (text .entry) ∷ now (thins .entry) ∷ now (bodies .entry) ∷ now (grid .entry) ∷ now (spans .entry) ∷ now (plane .entry) ∷ now (bytes .entry) ∷ []) (now (out .entry)) .out ⌝ }
+    ensures answer { λ r. ⌜ r ≡ answerOf (sheetEnd (now (s .entry)) (now (text .entry) ∷ now (thins .entry) ∷ now (bodies .entry) ∷ now (grid .entry) ∷ now (spans .entry) ∷ now (bytes .entry) ∷ []) (now (out .entry)) .outcome) ⌝ }
+    ensures works { λ _. ⌜ (now (text .exit) ∷ now (thins .exit) ∷ now (bodies .exit) ∷ now (grid .exit) ∷ now (spans .exit) ∷ now (bytes .exit) ∷ []) ≡ sheetEnd (now (s .entry)) (now (text .entry) ∷ now (thins .entry) ∷ now (bodies .entry) ∷ now (grid .entry) ∷ now (spans .entry) ∷ now (bytes .entry) ∷ []) (now (out .entry)) .works ⌝ }
+    ensures out { λ _. ⌜ now (out .exit) ≡ sheetEnd (now (s .entry)) (now (text .entry) ∷ now (thins .entry) ∷ now (bodies .entry) ∷ now (grid .entry) ∷ now (spans .entry) ∷ now (bytes .entry) ∷ []) (now (out .entry)) .out ⌝ }
 {
-    let o = builder::read_sheet(s, text, thins, bodies, grid, spans, plane, bytes, out);
+    let o = builder::read_sheet(s, text, thins, bodies, grid, spans, bytes, out);
     numbers::outcome_answer(o)
 }
 

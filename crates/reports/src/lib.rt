@@ -36,7 +36,6 @@ pub fn put_sheet(out: &mut [u8], at: usize, s: &[u8]) -> usize
     let mut bodies = [0u32; CANVAS_SIZE];
     let mut grid = [0u32; CANVAS_SIZE];
     let mut spans = [0u32; 2048];
-    let mut plane = [0u32; 4160];
     let mut bytes = [0u8; 61444];
     let mut record = [0u8; RECORD_BYTES];
     let drawn = builder::read_sheet(
@@ -46,7 +45,6 @@ pub fn put_sheet(out: &mut [u8], at: usize, s: &[u8]) -> usize
         &mut bodies,
         &mut grid,
         &mut spans,
-        &mut plane,
         &mut bytes,
         &mut record,
     );

@@ -39,8 +39,8 @@ abbrev pub PlaneHeld : PlaneRead → List ℕ → List ℕ → List ℕ → Type
 PlaneHeld (Rows n count) plane bytes spans = Held plane n (take textBytes bytes) spans count
 PlaneHeld (NoPlane r) plane bytes spans = Unit {0}
 
--- the slices that reading a plane is handed: b takes the regions, m the number of each frame
-pub record PlaneRoom (w h : ℕ) (t m g b bytes spans d : List ℕ) : Type 0 where
+-- the slices that reading a plane is handed: b takes the regions, m the number of each frame, t the plane
+pub record PlaneRoom (w h : ℕ) (t m g b bytes spans : List ℕ) : Type 0 where
   pub regions : RegionRoom w h t m b bytes spans
   pub grid : Layer w h (length g)
-  pub plane : planeSize ≤ length d
+  pub plane : planeSize ≤ length t

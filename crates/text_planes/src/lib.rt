@@ -45,10 +45,11 @@ pub enum PlaneRead {
 }
 
 // The plane of the layers of a drawing, and the texts of its regions. Once there is GRID, BODY is not needed: the regions
-// go there. Once their texts are gathered THIN is not: the numbers of the frames of GRID go there.
+// go there. Once their texts are gathered neither THIN nor TEXT is: the numbers of the frames of GRID go where THIN was,
+// the plane where TEXT was.
 pub fn read_plane(
     o: Outline,
-    text: &[u32],
+    text: &mut [u32],
     thins: &mut [u32],
     grid: &[u32],
     bodies: &mut [u32],
@@ -56,11 +57,10 @@ pub fn read_plane(
     h: usize,
     bytes: &mut [u8],
     spans: &mut [u32],
-    plane: &mut [u32],
 ) -> PlaneRead
-    requires { ⌜ PlaneRoom w h (now text) (now thins) (now grid) (now bodies) (now bytes) (now spans) (now plane) ⌝ }
-    ensures answer { λ r. ⌜ planeRead r (now (plane .exit)) (now (bytes .exit)) (now (spans .exit)) ≡ textPlaneOf o (canvas w h (now (text .entry))) (canvas w h (now (thins .entry))) (canvas w h (now (grid .entry))) w h ⌝ }
-    ensures held { λ r. ⌜ PlaneHeld r (now (plane .exit)) (now (bytes .exit)) (now (spans .exit)) ⌝ }
+    requires { ⌜ PlaneRoom w h (now text) (now thins) (now grid) (now bodies) (now bytes) (now spans) ⌝ }
+    ensures answer { λ r. ⌜ planeRead r (now (text .exit)) (now (bytes .exit)) (now (spans .exit)) ≡ textPlaneOf o (canvas w h (now (text .entry))) (canvas w h (now (thins .entry))) (canvas w h (now (grid .entry))) w h ⌝ }
+    ensures held { λ r. ⌜ PlaneHeld r (now (text .exit)) (now (bytes .exit)) (now (spans .exit)) ⌝ }
 {
     match read_regions(text, thins, w, h, bodies, bytes, spans) {
         RegionsRead::Read(count, _) => match step::make_plane(
@@ -71,7 +71,7 @@ pub fn read_plane(
             bodies,
             count,
             thins,
-            plane,
+            text,
         ) {
             PlaneMade::Made(n) => PlaneRead::Rows(n, count),
             PlaneMade::NotMade(r) => PlaneRead::NoPlane(r),

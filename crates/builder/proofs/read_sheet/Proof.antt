@@ -11,7 +11,7 @@ use Rattle.builder.proofs.read_sheet.Statement.{statement}
 use Rattle.builder.proofs.read_sheet.Tie as tie
 
 abbrev works : tie.Start → List (List ℕ)
-works s = s .args .text .now ∷ s .args .thins .now ∷ s .args .bodies .now ∷ s .args .grid .now ∷ s .args .spans .now ∷ s .args .plane .now ∷ s .args .bytes .now ∷ []
+works s = s .args .text .now ∷ s .args .thins .now ∷ s .args .bodies .now ∷ s .args .grid .now ∷ s .args .spans .now ∷ s .args .bytes .now ∷ []
 
 slice-aggregate-work-slices : tie.Need-slice-aggregate-work-slices
 slice-aggregate-work-slices c = search needs
@@ -27,43 +27,39 @@ enum-told c = search needs
 
 sheet-cleared-requires : tie.Need-sheet-cleared-requires
 sheet-cleared-requires c κs =
-    let w = c .before .before .before .before .before .before .before .before .before .before in
-    sym (w .work-slices .ensures) ∙ ap roomIn (c .before .before .before .before .before .before .before .before .enum-told .given .1)
+    let w = c .before .before .before .before .before .before .before .before .before in
+    sym (w .work-slices .ensures) ∙ ap roomIn (c .before .before .before .before .before .before .before .enum-told .given .1)
 
 enum-known-r : tie.Need-enum-known-r
 enum-known-r c = search needs
 
 same-length : tie.Need-same-length
-same-length c = c .before .before .before .before .before .before .before .before .before .before .before .before .before .before .before .before .sheet-cleared .kept .1 .0
+same-length c = c .before .before .before .before .before .before .before .before .before .before .before .before .before .before .sheet-cleared .kept .1 .0
 
 same-length-2 : tie.Need-same-length-2
-same-length-2 c = c .before .before .before .before .before .before .before .before .before .before .before .before .before .before .before .before .sheet-cleared .kept .1 .1 .0
+same-length-2 c = c .before .before .before .before .before .before .before .before .before .before .before .before .before .before .sheet-cleared .kept .1 .1 .0
 
 same-length-3 : tie.Need-same-length-3
-same-length-3 c = c .before .before .before .before .before .before .before .before .before .before .before .before .before .before .before .before .sheet-cleared .kept .1 .1 .1 .0
+same-length-3 c = c .before .before .before .before .before .before .before .before .before .before .before .before .before .before .sheet-cleared .kept .1 .1 .1 .0
 
 same-length-4 : tie.Need-same-length-4
-same-length-4 c = c .before .before .before .before .before .before .before .before .before .before .before .before .before .before .before .before .sheet-cleared .kept .1 .1 .1 .1 .0
+same-length-4 c = c .before .before .before .before .before .before .before .before .before .before .before .before .before .before .sheet-cleared .kept .1 .1 .1 .1 .0
 
 same-length-5 : tie.Need-same-length-5
-same-length-5 c = c .before .before .before .before .before .before .before .before .before .before .before .before .before .before .before .before .sheet-cleared .kept .1 .1 .1 .1 .1 .0
+same-length-5 c = c .before .before .before .before .before .before .before .before .before .before .before .before .before .before .sheet-cleared .kept .1 .1 .1 .1 .1 .0
 
 same-length-6 : tie.Need-same-length-6
-same-length-6 c = c .before .before .before .before .before .before .before .before .before .before .before .before .before .before .before .before .sheet-cleared .kept .1 .1 .1 .1 .1 .1 .0
+same-length-6 c = c .before .before .before .before .before .before .before .before .before .before .before .before .before .before .sheet-cleared .kept .1 .1 .1 .1 .1 .1 .0
 
 same-length-7 : tie.Need-same-length-7
-same-length-7 c = c .before .before .before .before .before .before .before .before .before .before .before .before .before .before .before .before .sheet-cleared .kept .1 .1 .1 .1 .1 .1 .1 .0
-
-same-length-8 : tie.Need-same-length-8
-same-length-8 c = c .before .before .before .before .before .before .before .before .before .before .before .before .before .before .before .before .sheet-cleared .kept .1 .1 .1 .1 .1 .1 .1 .1 .0
+same-length-7 c = c .before .before .before .before .before .before .before .before .before .before .before .before .before .before .sheet-cleared .kept .1 .1 .1 .1 .1 .1 .1 .0
 
 returns : tie.Need-returns
-returns c =
-    c .before .before .before .before .before .before .before .before .before .before .before .before .before .before .before .before .sheet-cleared .ensures
+returns c = c .before .before .before .before .before .before .before .before .before .before .before .before .before .before .sheet-cleared .ensures
 
 returns-2 : tie.Need-returns-2
 returns-2 c =
-    let s = c .before .before .before .before .before .before .before .before .before .before .before .before .before .before .before in
+    let s = c .before .before .before .before .before .before .before .before .before .before .before .before .before .before in
     end-short sheetSizes (walkedPolicy (s .args .s .now)) (works s) (s .args .out .now) _ (ap roomIn (sym (c .before .r .given .1)) ∙ c .before .before .before .work-slices .ensures)
 
 pub read-sheet-spec : {M : Type 1} → statement M
@@ -83,6 +79,5 @@ read-sheet-spec =
     same-length-5
     same-length-6
     same-length-7
-    same-length-8
     returns
     returns-2)

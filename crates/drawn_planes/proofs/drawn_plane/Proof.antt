@@ -24,7 +24,7 @@ abbrev drawn : tie.After-known-told → tie.After-draw-sheet
 drawn c = c .before .before .before .before .before .before .before .before .before .before .before
 
 abbrev start : tie.After-known-told → tie.Start
-start c = drawn c .before .before .before .before .before .before .before .before .before .before .before .before .before
+start c = drawn c .before .before .before .before .before .before .before .before .before .before .before .before
 
 abbrev rows : tie.After-known-told → ℕ
 rows c = c .before .rows .given .0 .0
@@ -50,7 +50,7 @@ abbrev stopped : tie.After-known-told3 → tie.After-read-plane
 stopped c = c .before .before .before .before .before .before .before .before .before .before .before .before .before
 
 abbrev sheet : tie.After-read-plane → tie.After-known-told
-sheet c = c .before .before .before .before .before .before .before .before
+sheet c = c .before .before .before .before .before .before .before
 
 abbrev bytes : tie.After-read-plane → List ℕ
 bytes c = c .read-plane .last .1 .1 .1 .1 .1 .1 .1 .0
@@ -59,7 +59,7 @@ abbrev spans : tie.After-read-plane → List ℕ
 spans c = c .read-plane .last .1 .1 .1 .1 .1 .1 .1 .1 .0
 
 abbrev plane : tie.After-read-plane → List ℕ
-plane c = c .read-plane .last .1 .1 .1 .1 .1 .1 .1 .1 .1 .0
+plane c = c .read-plane .last .1 .0
 
 held : (c : tie.After-known-told2) → Held (plane (read c)) (c .before .n .given .0 .0) (take textBytes (bytes (read c))) (spans (read c)) (c .before .n .given .0 .1 .0)
 held c = subst (λ (x : PlaneRead). PlaneHeld x (plane (read c)) (bytes (read c)) (spans (read c))) (c .before .n .given .1) (read c .read-plane .ensures .1)
@@ -72,12 +72,12 @@ enum-known-rows c = search needs
 
 read-plane-requires : tie.Need-read-plane-requires
 read-plane-requires c κs =
-    let k = c .before .before .before .before .before .before .before in
+    let k = c .before .before .before .before .before .before in
     let p = start k .pre in
     let l = drawn k .draw-sheet .kept in
     let r : Room (drawn k .draw-sheet .last .1 .0) (drawn k .draw-sheet .last .1 .1 .0) (drawn k .draw-sheet .last .1 .1 .1 .0) (drawn k .draw-sheet .last .1 .1 .1 .1 .0) =
     record { text = omega (arith, p .layers .text, l .1 .0); thin = omega (arith, p .layers .thin, l .1 .1 .0); body = omega (arith, p .layers .body, l .1 .1 .1 .0); grid = omega (arith, p .layers .grid, l .1 .1 .1 .1 .0) } in
-    plane-room (start k .args .s .now) (outline k) (told k) (shown k) r (p .allTexts) (p .twoEach) (p .plane)
+    plane-room (start k .args .s .now) (outline k) (told k) (shown k) r (p .allTexts) (p .twoEach)
 
 enum-known-n : tie.Need-enum-known-n
 enum-known-n c = search needs
@@ -89,7 +89,7 @@ enum-known-r-2 : tie.Need-enum-known-r-2
 enum-known-r-2 c = search needs
 
 same-length : tie.Need-same-length
-same-length c = drawn (sheet (read c)) .draw-sheet .kept .1 .0
+same-length c = read c .read-plane .kept .1 .0 ∙ drawn (sheet (read c)) .draw-sheet .kept .1 .0
 
 same-length-2 : tie.Need-same-length-2
 same-length-2 c = search needs
@@ -106,9 +106,6 @@ same-length-5 c = search needs
 same-length-6 : tie.Need-same-length-6
 same-length-6 c = search needs
 
-same-length-7 : tie.Need-same-length-7
-same-length-7 c = search needs
-
 returns : tie.Need-returns
 returns c =
     let m = read c in
@@ -116,8 +113,11 @@ returns c =
     let q = ap (λ (x : PlaneRead). planeRead x (plane m) (bytes m) (spans m)) (sym (c .before .n .given .1)) ∙ m .read-plane .ensures .0 in
     (with-plane (start k .args .s .now) (outline k) (told k) (shown k) _ _ _ _ _ (held c) q, (held c, name-in (start k .args .s .now) (outline k) (told k) (shown k) _ _ _ _ _ (held c) q))
 
+same-length-7 : tie.Need-same-length-7
+same-length-7 c = stopped c .read-plane .kept .1 .0 ∙ drawn (sheet (stopped c)) .draw-sheet .kept .1 .0
+
 same-length-8 : tie.Need-same-length-8
-same-length-8 c = drawn (sheet (stopped c)) .draw-sheet .kept .1 .0
+same-length-8 c = search needs
 
 same-length-9 : tie.Need-same-length-9
 same-length-9 c = search needs
@@ -131,17 +131,17 @@ same-length-11 c = search needs
 same-length-12 : tie.Need-same-length-12
 same-length-12 c = search needs
 
-same-length-13 : tie.Need-same-length-13
-same-length-13 c = search needs
-
-same-length-14 : tie.Need-same-length-14
-same-length-14 c = search needs
-
 returns-2 : tie.Need-returns-2
 returns-2 c =
     let m = stopped c in
     let k = sheet m in
     (no-plane (start k .args .s .now) (outline k) (told k) (shown k) _ (ap (λ (x : PlaneRead). planeRead x (plane m) (bytes m) (spans m)) (sym (c .before .r .given .1)) ∙ m .read-plane .ensures .0), tt)
+
+same-length-13 : tie.Need-same-length-13
+same-length-13 c = search needs
+
+same-length-14 : tie.Need-same-length-14
+same-length-14 c = search needs
 
 same-length-15 : tie.Need-same-length-15
 same-length-15 c = search needs
@@ -149,16 +149,10 @@ same-length-15 c = search needs
 same-length-16 : tie.Need-same-length-16
 same-length-16 c = search needs
 
-same-length-17 : tie.Need-same-length-17
-same-length-17 c = search needs
-
-same-length-18 : tie.Need-same-length-18
-same-length-18 c = search needs
-
 returns-3 : tie.Need-returns-3
 returns-3 c =
     let d = c .before .before .before .before .before .before .before .before .before .before .before in
-    (not-drawn (d .before .before .before .before .before .before .before .before .before .before .before .before .before .args .s .now) _ (ap outlineIn (sym (c .before .r2 .given .1)) ∙ d .draw-sheet .ensures .0), tt)
+    (not-drawn (d .before .before .before .before .before .before .before .before .before .before .before .before .args .s .now) _ (ap outlineIn (sym (c .before .r2 .given .1)) ∙ d .draw-sheet .ensures .0), tt)
 
 pub drawn-plane-spec : {M : Type 1} → statement M
 drawn-plane-spec =
@@ -176,18 +170,16 @@ drawn-plane-spec =
     same-length-4
     same-length-5
     same-length-6
-    same-length-7
     returns
+    same-length-7
     same-length-8
     same-length-9
     same-length-10
     same-length-11
     same-length-12
+    returns-2
     same-length-13
     same-length-14
-    returns-2
     same-length-15
     same-length-16
-    same-length-17
-    same-length-18
     returns-3)

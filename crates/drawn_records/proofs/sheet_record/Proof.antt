@@ -12,21 +12,21 @@ use Rattle.drawn_records.proofs.sheet_record.Statement.{statement}
 use Rattle.drawn_records.proofs.sheet_record.Tie as tie
 
 abbrev start : tie.After-drawn-plane → tie.Start
-start d = d .before .before .before .before .before .before .before .before .before .before .before .before .before .before .before .before .before
+start d = d .before .before .before .before .before .before .before .before .before .before .before .before .before .before .before
 
 -- the plane that was drawn and its table, when all is done
-abbrev drawn : tie.After-slice-known18 → tie.After-drawn-plane
-drawn c = c .before .before .before .before .before .before .before .before .before .before .before .before .before .before .before .before .before .before .before .before .before .before .before .before .before .before .before .before .before .before
+abbrev drawn : tie.After-slice-known16 → tie.After-drawn-plane
+drawn c = c .before .before .before .before .before .before .before .before .before .before .before .before .before .before .before .before .before .before .before .before .before .before .before .before .before .before .before .before
 
-abbrev tabled : tie.After-slice-known18 → tie.After-table-of
+abbrev tabled : tie.After-slice-known16 → tie.After-table-of
 tabled c = c .before .before .before .before .before .before .before .before .before .before
 
 drawn-plane-requires : tie.Need-drawn-plane-requires
-drawn-plane-requires c κs = c .before .before .before .before .before .before .before .before .before .before .before .before .before .before .before .before .pre
+drawn-plane-requires c κs = c .before .before .before .before .before .before .before .before .before .before .before .before .before .before .pre
 
 table-of-requires : tie.Need-table-of-requires
 table-of-requires c κs =
-    let d = c .before .before .before .before .before .before .before .before .before .before .before .before .before .before .before .before .before .before .before in
+    let d = c .before .before .before .before .before .before .before .before .before .before .before .before .before .before .before .before .before in
     let p = start d .pre in
     let l = d .drawn-plane .kept in
     (d .drawn-plane .ensures .1, omega (arith, p .allTexts, l .1 .1 .1 .1 .1 .0), omega (arith, p .layers .body, l .1 .1 .1 .0), omega (arith, p .layers .thin, l .1 .1 .0))
@@ -34,7 +34,7 @@ table-of-requires c κs =
 write-drawn-requires : tie.Need-write-drawn-requires
 write-drawn-requires c κs =
     let t = c .before .before .before .before .before .before .before in
-    let d = c .before .before .before .before .before .before .before .before .before .before .before .before .before .before .before .before .before .before .before .before .before .before .before .before .before .before .before in
+    let d = c .before .before .before .before .before .before .before .before .before .before .before .before .before .before .before .before .before .before .before .before .before .before .before .before .before in
     let p = start d .pre in
     let l = d .drawn-plane .kept in
     (t .table-of .ensures .1, omega (arith, p .allTexts, l .1 .1 .1 .1 .1 .0), omega (arith, p .layers .thin, l .1 .1 .0, t .table-of .kept .1 .1 .1 .1 .1 .0))
@@ -55,13 +55,10 @@ same-length-5 : tie.Need-same-length-5
 same-length-5 c = drawn c .drawn-plane .kept .1 .1 .1 .1 .1 .1 .0
 
 same-length-6 : tie.Need-same-length-6
-same-length-6 c = drawn c .drawn-plane .kept .1 .1 .1 .1 .1 .1 .1 .0
+same-length-6 c = drawn c .drawn-plane .kept .1 .1 .1 .1 .1 .0
 
 same-length-7 : tie.Need-same-length-7
-same-length-7 c = drawn c .drawn-plane .kept .1 .1 .1 .1 .1 .0
-
-same-length-8 : tie.Need-same-length-8
-same-length-8 c = c .before .before .write-drawn .kept .1 .1 .1 .0
+same-length-7 c = c .before .before .write-drawn .kept .1 .1 .1 .0
 
 returns : tie.Need-returns
 returns c =
@@ -84,5 +81,4 @@ sheet-record-spec =
     same-length-5
     same-length-6
     same-length-7
-    same-length-8
     returns)

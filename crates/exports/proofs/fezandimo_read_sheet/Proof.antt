@@ -11,31 +11,28 @@ outcome-answer-requires : tie.Need-outcome-answer-requires
 outcome-answer-requires c κs = search needs
 
 same-length : tie.Need-same-length
-same-length c = c .before .before .before .before .before .before .before .before .before .before .before .before .before .before .before .before .before .read-sheet .kept .1 .0
+same-length c = c .before .before .before .before .before .before .before .before .before .before .before .before .before .before .before .read-sheet .kept .1 .0
 
 same-length-2 : tie.Need-same-length-2
-same-length-2 c = c .before .before .before .before .before .before .before .before .before .before .before .before .before .before .before .before .before .read-sheet .kept .1 .1 .0
+same-length-2 c = c .before .before .before .before .before .before .before .before .before .before .before .before .before .before .before .read-sheet .kept .1 .1 .0
 
 same-length-3 : tie.Need-same-length-3
-same-length-3 c = c .before .before .before .before .before .before .before .before .before .before .before .before .before .before .before .before .before .read-sheet .kept .1 .1 .1 .0
+same-length-3 c = c .before .before .before .before .before .before .before .before .before .before .before .before .before .before .before .read-sheet .kept .1 .1 .1 .0
 
 same-length-4 : tie.Need-same-length-4
-same-length-4 c = c .before .before .before .before .before .before .before .before .before .before .before .before .before .before .before .before .before .read-sheet .kept .1 .1 .1 .1 .0
+same-length-4 c = c .before .before .before .before .before .before .before .before .before .before .before .before .before .before .before .read-sheet .kept .1 .1 .1 .1 .0
 
 same-length-5 : tie.Need-same-length-5
-same-length-5 c = c .before .before .before .before .before .before .before .before .before .before .before .before .before .before .before .before .before .read-sheet .kept .1 .1 .1 .1 .1 .0
+same-length-5 c = c .before .before .before .before .before .before .before .before .before .before .before .before .before .before .before .read-sheet .kept .1 .1 .1 .1 .1 .0
 
 same-length-6 : tie.Need-same-length-6
-same-length-6 c = c .before .before .before .before .before .before .before .before .before .before .before .before .before .before .before .before .before .read-sheet .kept .1 .1 .1 .1 .1 .1 .0
+same-length-6 c = c .before .before .before .before .before .before .before .before .before .before .before .before .before .before .before .read-sheet .kept .1 .1 .1 .1 .1 .1 .0
 
 same-length-7 : tie.Need-same-length-7
-same-length-7 c = c .before .before .before .before .before .before .before .before .before .before .before .before .before .before .before .before .before .read-sheet .kept .1 .1 .1 .1 .1 .1 .1 .0
-
-same-length-8 : tie.Need-same-length-8
-same-length-8 c = c .before .before .before .before .before .before .before .before .before .before .before .before .before .before .before .before .before .read-sheet .kept .1 .1 .1 .1 .1 .1 .1 .1 .0
+same-length-7 c = c .before .before .before .before .before .before .before .before .before .before .before .before .before .before .before .read-sheet .kept .1 .1 .1 .1 .1 .1 .1 .0
 
 returns : tie.Need-returns
-returns c = end-told _ _ (c .outcome-answer .result) (c .before .before .before .before .before .before .before .before .before .before .before .before .before .before .before .before .before .read-sheet .ensures) (c .outcome-answer .ensures)
+returns c = end-told _ _ (c .outcome-answer .result) (c .before .before .before .before .before .before .before .before .before .before .before .before .before .before .before .read-sheet .ensures) (c .outcome-answer .ensures)
 
 pub fezandimo-read-sheet-spec : {M : Type 1} → statement M
 fezandimo-read-sheet-spec =
@@ -50,5 +47,4 @@ fezandimo-read-sheet-spec =
     same-length-5
     same-length-6
     same-length-7
-    same-length-8
     returns)

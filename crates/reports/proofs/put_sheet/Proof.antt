@@ -10,9 +10,9 @@ use Rattle.reports.proofs.put_sheet.Statement.{statement}
 use Rattle.reports.proofs.put_sheet.Tie as tie
 
 abbrev start : tie.After-read-sheet → tie.Start
-start c = c .before .before .before .before .before .before .before .before .before .before .before
+start c = c .before .before .before .before .before .before .before .before .before .before
 
-told : (c : tie.After-read-sheet) → Reported (walkedPolicy (start c .args .s .now)) recordBytes (c .read-sheet .result) (c .read-sheet .last .1 .1 .1 .1 .1 .1 .1 .1 .0)
+told : (c : tie.After-read-sheet) → Reported (walkedPolicy (start c .args .s .now)) recordBytes (c .read-sheet .result) (c .read-sheet .last .1 .1 .1 .1 .1 .1 .1 .0)
 told c = end-reported sheetSizes (walkedPolicy (start c .args .s .now)) _ _ _ _ _ recordBytes (drawn-printable (start c .args .s .now)) (search needs) (search needs) (c .read-sheet .ensures)
 
 slice-aggregate-read-sheet : tie.Need-slice-aggregate-read-sheet
@@ -36,9 +36,6 @@ slice-aggregate-read-sheet-6 c = search needs
 slice-aggregate-read-sheet-7 : tie.Need-slice-aggregate-read-sheet-7
 slice-aggregate-read-sheet-7 c = search needs
 
-slice-aggregate-read-sheet-8 : tie.Need-slice-aggregate-read-sheet-8
-slice-aggregate-read-sheet-8 c = search needs
-
 read-sheet-requires : tie.Need-read-sheet-requires
 read-sheet-requires c κs = search needs
 
@@ -46,13 +43,13 @@ slice-aggregate-put-outcome : tie.Need-slice-aggregate-put-outcome
 slice-aggregate-put-outcome c = search needs
 
 put-outcome-requires : tie.Need-put-outcome-requires
-put-outcome-requires c κs = let q = c .before .before .before .before .before .before .before .before .before .before in (omega (arith, start q .pre), omega (arith, q .read-sheet .kept .1 .1 .1 .1 .1 .1 .1 .1 .0), told q .sound)
+put-outcome-requires c κs = let q = c .before .before .before .before .before .before .before .before .before in (omega (arith, start q .pre), omega (arith, q .read-sheet .kept .1 .1 .1 .1 .1 .1 .1 .0), told q .sound)
 
 same-length : tie.Need-same-length
 same-length c = search needs
 
 returns : tie.Need-returns
-returns c = written-as (c .before .before .put-outcome .ensures) (told (c .before .before .before .before .before .before .before .before .before .before .before .before .before) .lines)
+returns c = written-as (c .before .before .put-outcome .ensures) (told (c .before .before .before .before .before .before .before .before .before .before .before .before) .lines)
 
 pub put-sheet-spec : {M : Type 1} → statement M
 put-sheet-spec =
@@ -65,7 +62,6 @@ put-sheet-spec =
     slice-aggregate-read-sheet-5
     slice-aggregate-read-sheet-6
     slice-aggregate-read-sheet-7
-    slice-aggregate-read-sheet-8
     read-sheet-requires
     slice-aggregate-put-outcome
     put-outcome-requires

@@ -128,6 +128,9 @@ same-length-13 c = search needs
 same-length-14 : tie.Need-same-length-14
 same-length-14 c = search needs
 
+same-length-15 : tie.Need-same-length-15
+same-length-15 c = search needs
+
 returns-3 : tie.Need-returns-3
 returns-3 c =
     let g = c .before .before .before .before .before .before .before .before .before in
@@ -159,4 +162,5 @@ read-plane-spec =
     same-length-12
     same-length-13
     same-length-14
+    same-length-15
     returns-3)
