@@ -86,7 +86,7 @@ impl<'a> Port<'a> {
     pub fn clear(&mut self) {
         match self.input {
             Input::Sheet(_) => {
-                self.works.numbers::<7>().into_iter().for_each(zero);
+                self.works.numbers::<5>().into_iter().for_each(zero);
                 self.works.bytes::<1>().into_iter().for_each(zero);
             }
             Input::Plane(_) => self.works.numbers::<4>().into_iter().for_each(zero),
