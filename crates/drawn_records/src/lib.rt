@@ -14,6 +14,14 @@ ghost use Rattle.policies.specs.DrawnPolicy.{walkedPolicy};
 ghost use Rattle.records.specs.Outcomes.{outcomeOf, recordOf};
 ghost use Rattle.drawn_planes.specs.DrawnTable.{namedPolicy, drawnIn, DrawnHeld, DrawnRoom};
 
+// The first 61,440 bytes, in which the texts of a drawing lie.
+fn texts_in(bytes: &[u8]) -> &[u8]
+    requires { ⌜ textBytes ≤ length (now bytes) ⌝ }
+    ensures { λ r. ⌜ now r ≡ take textBytes (now (bytes .entry)) ⌝ }
+{
+    &bytes[0..TEXT_BYTES]
+}
+
 // The table of a plane that is drawn, or why there is none.
 fn table_of(
     d: DrawnRows,
@@ -31,7 +39,7 @@ fn table_of(
         DrawnRows::Rows(n, count, named) => tables::plane_table(
             plane,
             n,
-            &bytes[0..TEXT_BYTES],
+            texts_in(bytes),
             spans,
             count,
             named,
@@ -48,7 +56,7 @@ fn write_drawn(t: Recognized, bytes: &[u8], slots: &[u32], out: &mut [u8]) -> Ou
     ensures outcome { λ r. ⌜ r ≡ outcomeOf (namedTable t (take textBytes (now (bytes .entry))) (now (slots .entry))) (length (now (out .entry))) ⌝ }
     ensures out { λ _. ⌜ now (out .exit) ≡ recordOf (namedTable t (take textBytes (now (bytes .entry))) (now (slots .entry))) (now (out .entry)) ⌝ }
 {
-    records::write_recognized(t, &bytes[0..TEXT_BYTES], slots, out)
+    records::write_recognized(t, texts_in(bytes), slots, out)
 }
 
 // The record of a drawing. The plane lies where TEXT was. Once it is there neither the other layers nor what took their

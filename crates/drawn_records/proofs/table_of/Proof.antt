@@ -1,6 +1,6 @@
 -- `drawn_records::table_of` meets its contract.
 use mathlib.Core.Path.{sym, ap, _∙_, subst}
-use lib.ListN.{take, length-take}
+use lib.ListN.{length-take}
 use native.Mathlib.Omega.{arith}
 use Rattle.model.specs.Limits.{textBytes}
 use Rattle.recognizer.specs.Told.{tableRead}
@@ -13,19 +13,14 @@ use Rattle.drawn_records.proofs.table_of.Tie as tie
 enum-known-d : tie.Need-enum-known-d
 enum-known-d c = search needs
 
-sub-plane-table : tie.Need-sub-plane-table
-sub-plane-table c = search needs
-
-part-plane-table-start : tie.Need-part-plane-table-start
-part-plane-table-start c = search needs
-
-part-plane-table-end : tie.Need-part-plane-table-end
-part-plane-table-end c = search needs
+texts-in-requires : tie.Need-texts-in-requires
+texts-in-requires c κs = c .before .before .before .before .before .before .before .before .pre .1
 
 plane-table-requires : tie.Need-plane-table-requires
 plane-table-requires c κs =
     let s = c .before .before .before .before .before .before .before .before .before .before .before in
     let h = subst (λ (x : DrawnRows). DrawnHeld x (s .args .plane .now) (s .args .bytes .now) (s .args .spans .now)) (c .before .before .before .before .d .given .1) (s .pre .0) in
+    rw (c .before .before .texts-in .ensures)
     (record { held = h .0; few = omega (arith, length-take textBytes (s .args .bytes .now)); sheet = s .pre .2; room = s .pre .3 }, h .1)
 
 enum-known-d-2 : tie.Need-enum-known-d-2
@@ -39,7 +34,7 @@ same-length-2 c = search needs
 
 returns : tie.Need-returns
 returns c =
-    let p = c .before .before .before .before .plane-table .ensures in
+    let p = rw (c .before .before .before .before .before .before .before .texts-in .ensures) at (c .before .before .before .before .plane-table .ensures) in
     let k = c .before .before .before .before .before .before .before .before .before in
     let s = k .before .before .before .before .before .before .before .args in
     (p .0 ∙ ap (λ (x : DrawnRows). tableRead (namedPolicy (drawnIn x (s .plane .now) (s .bytes .now) (s .spans .now)))) (sym (k .d .given .1)), p .1)
@@ -54,9 +49,7 @@ table-of-spec =
     tie.close
     (tie.spec
     enum-known-d
-    sub-plane-table
-    part-plane-table-start
-    part-plane-table-end
+    texts-in-requires
     plane-table-requires
     enum-known-d-2
     same-length
