@@ -75,6 +75,10 @@ module _ {line : List ℕ} {end : ℕ} (f : FirstAt line 0 blank end) where
       let z : length line ≤ suc (length (before blank line)) = omega (arith, word-long) in
       ap (answerBy (kindOf (wordOf line)) textBytes) (drop-of-length-le line z) ∙ nothing-behind (kindOf (wordOf line))
 
+-- the answer by a kind, where it is known
+pub by-kind : (s : List ℕ) (k K : Kind) → k ≡ K → answerBy K textBytes s ≡ answerBy k textBytes s
+by-kind s k K e = ap (λ (k : Kind). answerBy k textBytes s) (sym e)
+
 pub answered-as : (r : Answered) {x y : Option (List ℕ)} (d o : List ℕ) (at : ℕ) → AnsweredIn r x d o at → x ≡ y → AnsweredIn r y d o at
 answered-as r {x} {y} d o at a e = subst (λ (x : Option (List ℕ)). AnsweredIn r x d o at) e a
 

@@ -12,7 +12,7 @@ ghost use Rattle.model.specs.Limits.{textBytes};
 ghost use Rattle.lines.specs.LentText.{lentIn};
 ghost use Rattle.lines.specs.Room.{lineBytes};
 ghost use Rattle.replay.specs.Kinds.{kindOf};
-ghost use Rattle.replay.specs.Answers.{splitAnswer, drawingAnswer, sheetAnswer, lentAnswer, planeAnswer, answerOf, AnsweredIn, Replayed, Stopped};
+ghost use Rattle.replay.specs.Answers.{splitAnswer, drawingAnswer, sheetAnswer, lentAnswer, planeAnswer, answerBy, answerOf, AnsweredIn, Replayed, Stopped};
 
 // What became of a line: its answer ends at an index, or it is malformed.
 pub enum Answered {
@@ -113,6 +113,28 @@ fn kind_of(word: &[u8]) -> Kind
     Kind::Unknown
 }
 
+// The answer to what stands behind a kind.
+fn answer_by(
+    kind: Kind,
+    rest: &[u8],
+    text: &mut [u8],
+    scratch: &mut [u8],
+    out: &mut [u8],
+    at: usize,
+) -> Answered
+    requires { ⌜ (at + lineBytes ≤ length (now out)) × (length (now text) ≡ textBytes) × (length (now scratch) ≡ textBytes) ⌝ }
+    ensures { λ r. ⌜ AnsweredIn r (answerBy kind textBytes (now (rest .entry))) (now (out .entry)) (now (out .exit)) at ⌝ }
+{
+    match kind {
+        Kind::Split => answer_split(rest, text, scratch, out, at),
+        Kind::Drawing => answer_drawing(rest, text, out, at),
+        Kind::Plane => answer_plane(rest, false, text, out, at),
+        Kind::Sheet => answer_sheet(rest, text, out, at),
+        Kind::Table => answer_plane(rest, true, text, out, at),
+        Kind::Unknown => Answered::NoText,
+    }
+}
+
 // The answer to a line.
 fn answer_line(
     line: &[u8],
@@ -129,14 +151,8 @@ fn answer_line(
         return Answered::NoText;
     }
     let start = end + 1;
-    match kind_of(&line[0..end]) {
-        Kind::Split => answer_split(&line[start..], text, scratch, out, at),
-        Kind::Drawing => answer_drawing(&line[start..], text, out, at),
-        Kind::Plane => answer_plane(&line[start..], false, text, out, at),
-        Kind::Sheet => answer_sheet(&line[start..], text, out, at),
-        Kind::Table => answer_plane(&line[start..], true, text, out, at),
-        Kind::Unknown => Answered::NoText,
-    }
+    let kind = kind_of(&line[0..end]);
+    answer_by(kind, &line[start..], text, scratch, out, at)
 }
 
 // How far the lines of the input are answered, the answers' count of bytes, and whether no line was malformed.
