@@ -11,7 +11,7 @@ pub fn clear_u8(s: &mut [u8])
 {
     let mut i = 0;
     while i < s.len() {
-        s[i] = 0;
+        s[i] = 0u8;
         i += 1;
     }
 }
@@ -22,7 +22,7 @@ pub fn clear_u32(s: &mut [u32])
 {
     let mut i = 0;
     while i < s.len() {
-        s[i] = 0;
+        s[i] = 0u32;
         i += 1;
     }
 }
