@@ -24,7 +24,7 @@ use Rattle.outline.proofs.InsideLaws.{Inside, outline-inside}
 use Rattle.regions.specs.Regions.{Finder, isCorner}
 use Rattle.scan.specs.Canvas.{rowsAt}
 use Rattle.scan.specs.Rows.{widest, blank, flat}
-use Rattle.step.specs.PlaneStep.{isAt}
+use Rattle.plane_rows.specs.Rows.{isAt}
 use Rattle.policies.proofs.PlaneHasRows.{plane-has-rows}
 use Rattle.policies.proofs.RowsHaveCells.{HasCells, rows-have-cells}
 use Rattle.walks.specs.Frame.{FrameFinder}

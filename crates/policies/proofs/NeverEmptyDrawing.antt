@@ -25,7 +25,8 @@ use Rattle.regions.specs.Regions.{Finder, cornersOf, addRegion, regionsBy}
 use Rattle.lookup.specs.Lookup.{regionFrom, regionOf}
 use Rattle.scan.specs.Canvas.{rowsAt, fits, sizeOf}
 use Rattle.scan.specs.Rows.{widest}
-use Rattle.step.specs.PlaneStep.{Row, Rows, isAt, outputLine, annotationLine, addLine, cornersIn, fitting, withCell, addCell, rowBy, addRow, addFrames, addGridRow, noRows, rowsBy, planeBy}
+use Rattle.plane_rows.specs.Rows.{Row, Rows, isAt, outputLine, annotationLine, addLine, fitting, withCell}
+use Rattle.step.specs.PlaneStep.{cornersIn, addCell, rowBy, addRow, addFrames, addGridRow, noRows, rowsBy, planeBy}
 use Rattle.texts.specs.RegionText.{textOf, packed, textsOf}
 use Rattle.utf8.specs.Utf8.{checked, onText}
 use Rattle.utf8.specs.declared.Checked.{Checked}

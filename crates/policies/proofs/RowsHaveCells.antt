@@ -27,7 +27,8 @@ use Rattle.cells.specs.Plane.{Plane}
 use Rattle.outline.specs.declared.Outline.{Outline}
 use Rattle.regions.specs.Regions.{Finder, isCorner}
 use Rattle.lookup.specs.Lookup.{regionOf}
-use Rattle.step.specs.PlaneStep.{Row, Rows, isAt, outputLine, annotationLine, addLine, fitting, outputBefore, annotationBefore, withCell, addCell, rowBy, addRow, addFrames, addGridRow, noRows, rowsBy, planeBy}
+use Rattle.plane_rows.specs.Rows.{Row, Rows, isAt, outputLine, annotationLine, addLine, fitting, outputBefore, annotationBefore, withCell}
+use Rattle.step.specs.PlaneStep.{addCell, rowBy, addRow, addFrames, addGridRow, noRows, rowsBy, planeBy}
 use Rattle.policies.proofs.PlaneHasRows.{each-through}
 use Rattle.step.proofs.RegionsAmong.{fitted}
 

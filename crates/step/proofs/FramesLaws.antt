@@ -13,12 +13,13 @@ use Rattle.cells.specs.Plane.{cellsIn, planeIn, KeptBefore}
 use Rattle.cells.proofs.PlaneLaws.{length-cells, length-plane, kept-plane}
 use Rattle.outline.specs.declared.Outline.{Outline}
 use Rattle.regions.specs.Regions.{Finder}
-use Rattle.step.specs.Made.{rowMade, rowsOf, Fits}
-use Rattle.step.specs.PlaneStep.{Row, Rows, rowBy, addRow, addFrames}
-use Rattle.step.specs.declared.PlaneSofar.{PlaneSofar}
-use Rattle.step.specs.declared.RowMade.{RowMade}
-use Rattle.step.specs.declared.RowMade.the-variants.{Cells, NoCells}
-use Rattle.step.specs.declared.RowSofar.{RowSofar}
+use Rattle.plane_rows.specs.Made.{rowMade, rowsOf, Fits}
+use Rattle.plane_rows.specs.Rows.{Row, Rows}
+use Rattle.plane_rows.specs.declared.PlaneSofar.{PlaneSofar}
+use Rattle.plane_rows.specs.declared.RowMade.{RowMade}
+use Rattle.plane_rows.specs.declared.RowMade.the-variants.{Cells, NoCells}
+use Rattle.plane_rows.specs.declared.RowSofar.{RowSofar}
+use Rattle.step.specs.PlaneStep.{rowBy, addRow, addFrames}
 
 -- the row of the frames, as the slice d1 has it
 module _ (o : Outline) (find : Finder) (regions : List Rect) (p : Picture) (w y : ℕ) (s : PlaneSofar) (d d1 : List ℕ) (r : RowMade)

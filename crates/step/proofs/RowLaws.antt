@@ -26,11 +26,13 @@ use Rattle.lookup.specs.Lookup.{regionOf, firstIn, numberOf, Numbered}
 use Rattle.lookup.proofs.FirstLaws.{region-first}
 use Rattle.walks.specs.Frame.{frameOf}
 use Rattle.walks.specs.Kinds.{grid}
-use Rattle.step.specs.Made.{noRegion, rowOf, rowMade, RowFit, RowFits, Over}
-use Rattle.step.specs.PlaneStep.{Row, fitting, withCell, addCell, rowBy}
-use Rattle.step.specs.declared.RowMade.{RowMade}
-use Rattle.step.specs.declared.RowMade.the-variants.{Cells, NoCells}
-use Rattle.step.specs.declared.RowSofar.{RowSofar}
+use Rattle.plane_rows.specs.Made.{rowOf, rowMade, RowFit, RowFits}
+use Rattle.plane_rows.specs.Rows.{Row, fitting, withCell}
+use Rattle.plane_rows.specs.declared.RowMade.{RowMade}
+use Rattle.plane_rows.specs.declared.RowMade.the-variants.{Cells, NoCells}
+use Rattle.plane_rows.specs.declared.RowSofar.{RowSofar}
+use Rattle.step.specs.Made.{noRegion, Over}
+use Rattle.step.specs.PlaneStep.{addCell, rowBy}
 
 -- place y * w + x of a picture of w columns is column x of row y
 pub place-mod : (w x y : ℕ) → x < w → (y * w + x) % w ≡ x

@@ -22,11 +22,13 @@ use Rattle.outline.specs.declared.Outline.{Outline}
 use Rattle.regions.specs.Regions.{Finder}
 use Rattle.walks.specs.Frame.{frameOf}
 use Rattle.walks.specs.Kinds.{grid}
-use Rattle.step.specs.Made.{rowsOf, rowsMade, Fits, RowsFit, lineCell, Over}
-use Rattle.step.specs.PlaneStep.{Rows, isAt, annotationLine, addLine, addFrames, addGridRow, rowsBy, planeBy, planeOf}
-use Rattle.step.specs.declared.PlaneSofar.{PlaneSofar}
-use Rattle.step.specs.declared.RowsMade.{RowsMade}
-use Rattle.step.specs.declared.RowsMade.the-variants.{Sofar, NoRows}
+use Rattle.plane_rows.specs.Made.{rowsOf, rowsMade, Fits, RowsFit, lineCell}
+use Rattle.plane_rows.specs.Rows.{Rows, isAt, annotationLine, addLine}
+use Rattle.plane_rows.specs.declared.PlaneSofar.{PlaneSofar}
+use Rattle.plane_rows.specs.declared.RowsMade.{RowsMade}
+use Rattle.plane_rows.specs.declared.RowsMade.the-variants.{Sofar, NoRows}
+use Rattle.step.specs.Made.{Over}
+use Rattle.step.specs.PlaneStep.{addFrames, addGridRow, rowsBy, planeBy, planeOf}
 
 pub rows-fit : {r : RowsMade} {t : PlaneSofar} {d : List ℕ} → r ≡ Sofar t → RowsFit r d → Fits t d
 rows-fit {r} {t} {d} z f = subst (λ (m : RowsMade). RowsFit m d) z f

@@ -21,7 +21,8 @@ use Rattle.walks.specs.Kinds.{grid}
 use Rattle.walks.specs.Sides.{bySides}
 use Rattle.walks.proofs.FrameLaws.{grid-sound}
 use Rattle.walks.proofs.SidesLaws.{walks-sides, sides-walks}
-use Rattle.step.specs.PlaneStep.{Row, Rows, isAt, outputLine, annotationLine, addLine, cornersIn, fitting, withCell, addCell, rowBy, addRow, addFrames, addGridRow, noRows, rowsBy, planeBy}
+use Rattle.plane_rows.specs.Rows.{Row, Rows, isAt, outputLine, annotationLine, addLine, fitting, withCell}
+use Rattle.step.specs.PlaneStep.{cornersIn, addCell, rowBy, addRow, addFrames, addGridRow, noRows, rowsBy, planeBy}
 
 -- a finder that answers whatever another answers makes its plane
 module _ (f f' : Finder) (b : (x y : ℕ) → Below (f x y) (f' x y)) (o : Outline) (regions : List Rect) (p : Picture) (w : ℕ) where

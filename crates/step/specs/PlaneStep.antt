@@ -1,66 +1,26 @@
 -- The plane of a drawing, over a finder of frames: document 01, "Regions and plane", and `plane` of the Rust's canvas.
-use mathlib.Core.Bool.{Bool, true, false}
+use mathlib.Core.Bool.{true}
 use mathlib.Core.List.{List, [], _∷_, _++_}
 use Prim.Native.Nat.{ℕ}
-use lib.Dec.{eqb, leb, ltb}
+use lib.Dec.{eqb}
 use lib.ListN.{length}
-use Rattle.lists.specs.Answer.{ok, refused, _>>=_, each, those}
+use Rattle.lists.specs.Answer.{ok, _>>=_, each, those}
 use Rattle.lists.specs.Choose.{choose}
 use Rattle.lists.specs.Picture.{Picture}
-use Rattle.lists.specs.Run.{build}
-use Rattle.model.specs.Limits.{planeRows, planeCells}
 use Rattle.model.specs.Refusals.{Reading}
-use Rattle.model.specs.declared.Cell.{Cell}
-use Rattle.model.specs.declared.Cell.the-variants.{Region, VerticalOutputDoubleLine, VerticalAnnotationDoubleLine, HorizontalOutputDoubleLine, HorizontalAnnotationsDoubleLine, MainDoubleCrossing, HorizontalDoubleCrossing, VerticalDoubleCrossing}
 use Rattle.model.specs.declared.Rect.{Rect}
-use Rattle.model.specs.declared.Refusal.the-variants.{OverLimit}
 use Rattle.cells.specs.Plane.{Plane}
 use Rattle.lookup.specs.Lookup.{regionOf}
-use Rattle.outline.specs.declared.Crossing.{Crossing}
-use Rattle.outline.specs.declared.Crossing.the-variants.{At, Nowhere}
+use Rattle.outline.specs.declared.Crossing.the-variants.{Nowhere}
 use Rattle.outline.specs.declared.Outline.{Outline}
+use Rattle.plane_rows.specs.Rows.{Row, Rows, isAt, outputLine, annotationLine, addLine, fitting, withCell}
 use Rattle.regions.specs.Regions.{Finder, isCorner}
 use Rattle.walks.specs.Frame.{frameOf}
 use Rattle.walks.specs.Kinds.{grid}
 
-abbrev pub isAt : Crossing → ℕ → Bool
-isAt (At i) x = eqb i x
-isAt Nowhere x = false
-
--- a row of the plane so far, and in which columns the last row that had them has the double lines before outputs and annotations
-pub record Row : Type 0 where
-  pub cells : List Cell
-  pub output : Crossing
-  pub annotation : Crossing
-
--- the plane so far, with the length of its last row
-pub record Rows : Type 0 where
-  pub plane : Plane
-  pub width : ℕ
-  pub output : Crossing
-  pub annotation : Crossing
-
--- cell i of the line row of the main crossing
-abbrev pub outputLine : Crossing → Crossing → ℕ → Cell
-outputLine output annotation i = choose (isAt output i) MainDoubleCrossing (choose (isAt annotation i) HorizontalDoubleCrossing HorizontalOutputDoubleLine)
-
--- cell i of the line row of the annotation crossing below it
-abbrev pub annotationLine : Crossing → ℕ → Cell
-annotationLine output i = choose (isAt output i) VerticalDoubleCrossing HorizontalAnnotationsDoubleLine
-
--- a line row, as long as the row above it: 7 past 64 rows
-abbrev pub addLine : (ℕ → Cell) → Rows → Reading Rows
-addLine line s =
-    choose (leb planeRows (length (s .plane))) (refused OverLimit)
-    (ok (record { plane = s .plane ++ (build (s .width) line ∷ []); width = s .width; output = s .output; annotation = s .annotation }))
-
 -- the columns of a row of GRID, from the left, in which a frame has to start
 abbrev pub cornersIn : Picture → ℕ → ℕ → List ℕ
 cornersIn p w y = those (λ x. isCorner (p x y)) 0 w
-
--- row n of the plane: 7 past 64 rows, or past 64 cells
-abbrev pub fitting : ℕ → Row → Reading Row
-fitting n s = choose (leb planeRows n) (refused OverLimit) (choose (ltb planeCells (length (s .cells))) (refused OverLimit) (ok s))
 
 -- a row in which no frame starts is no row of the plane
 abbrev pub addRow : Rows → Row → Reading Rows
@@ -69,28 +29,12 @@ addRow s r =
     (ok (record { plane = s .plane ++ (r .cells ∷ []); width = length (r .cells); output = r .output; annotation = r .annotation }))
 
 module _ (o : Outline) where
-  -- the double lines left of a frame in column x
-  abbrev pub outputBefore : ℕ → List Cell
-  outputBefore x = choose (eqb x (o .x)) (VerticalOutputDoubleLine ∷ []) []
-
-  abbrev pub annotationBefore : ℕ → List Cell
-  annotationBefore x = choose (isAt (o .right) x) (VerticalAnnotationDoubleLine ∷ []) []
-
-  -- the row with the cell of a frame in column x, of region i, behind the double lines left of it
-  abbrev pub withCell : ℕ → ℕ → Row → Row
-  withCell x i s =
-      record {
-        cells = s .cells ++ (outputBefore x ++ (annotationBefore x ++ (Region i ∷ [])));
-        output = choose (eqb x (o .x)) (At (length (s .cells))) (s .output);
-        annotation = choose (isAt (o .right) x) (At (length (s .cells ++ outputBefore x))) (s .annotation);
-      }
-
   -- the frame in column x of row y is found, then its region, then its cells are added
   abbrev pub addCell : Finder → List Rect → ℕ → ℕ → ℕ → Row → Reading Row
   addCell find regions n y x s = do
     f ← find x y
     i ← regionOf regions f
-    fitting n (withCell x i s)
+    fitting n (withCell o x i s)
 
   -- row n of the plane, of the frames that start in row y
   abbrev pub rowBy : Finder → List Rect → Picture → ℕ → ℕ → ℕ → Row → Reading Row

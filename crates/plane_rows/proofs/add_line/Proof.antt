@@ -1,10 +1,10 @@
--- `step::add_line` meets its contract.
+-- `plane_rows::add_line` meets its contract.
 use Rattle.cells.proofs.PlaneLaws.{kept-fits}
-use Rattle.step.specs.Made.{lineCell}
-use Rattle.step.proofs.LineLaws.{line-over, line-added}
+use Rattle.plane_rows.specs.Made.{lineCell}
+use Rattle.plane_rows.proofs.LineLaws.{line-over, line-added}
 use borrow.Author.Needs.{needs}
-use Rattle.step.proofs.add_line.Statement.{statement}
-use Rattle.step.proofs.add_line.Tie as tie
+use Rattle.plane_rows.proofs.add_line.Statement.{statement}
+use Rattle.plane_rows.proofs.add_line.Tie as tie
 
 abbrev start : tie.After-put-line → tie.Start
 start c = c .before .before .before .before

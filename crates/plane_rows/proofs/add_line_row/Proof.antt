@@ -1,8 +1,8 @@
--- `step::add_line_row` meets its contract.
+-- `plane_rows::add_line_row` meets its contract.
 use mathlib.Core.Path.{_∙_}
 use borrow.Author.Needs.{needs}
-use Rattle.step.proofs.add_line_row.Statement.{statement}
-use Rattle.step.proofs.add_line_row.Tie as tie
+use Rattle.plane_rows.proofs.add_line_row.Statement.{statement}
+use Rattle.plane_rows.proofs.add_line_row.Tie as tie
 
 add-line-requires : tie.Need-add-line-requires
 add-line-requires c κs = c .before .before .before .pre

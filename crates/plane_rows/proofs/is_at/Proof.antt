@@ -1,7 +1,7 @@
--- `step::is_at` meets its contract.
+-- `plane_rows::is_at` meets its contract.
 use borrow.Author.Needs.{needs}
-use Rattle.step.proofs.is_at.Statement.{statement}
-use Rattle.step.proofs.is_at.Tie as tie
+use Rattle.plane_rows.proofs.is_at.Statement.{statement}
+use Rattle.plane_rows.proofs.is_at.Tie as tie
 
 enum-known-c : tie.Need-enum-known-c
 enum-known-c c = search needs

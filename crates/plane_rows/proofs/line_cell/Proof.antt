@@ -1,10 +1,10 @@
--- `step::line_cell` meets its contract.
+-- `plane_rows::line_cell` meets its contract.
 use mathlib.Core.Path.{sym, _∙_}
 use native.Mathlib.Omega.{arith}
 use borrow.Author.Needs.{needs}
 use borrow.Author.Tests.{not-true, not-false}
-use Rattle.step.proofs.line_cell.Statement.{statement}
-use Rattle.step.proofs.line_cell.Tie as tie
+use Rattle.plane_rows.proofs.line_cell.Statement.{statement}
+use Rattle.plane_rows.proofs.line_cell.Tie as tie
 
 is-at-requires : tie.Need-is-at-requires
 is-at-requires c κs = search needs

@@ -10,9 +10,9 @@ use Rattle.model.specs.declared.Cell.{Cell}
 use Rattle.model.specs.declared.Refusal.the-variants.{OverLimit}
 use Rattle.cells.specs.Plane.{cellsIn, planeIn, KeptBefore}
 use Rattle.cells.proofs.PlaneLaws.{length-plane, kept-plane}
-use Rattle.step.specs.Made.{rowsOf, Fits}
-use Rattle.step.specs.PlaneStep.{addLine}
-use Rattle.step.specs.declared.PlaneSofar.{PlaneSofar}
+use Rattle.plane_rows.specs.Made.{rowsOf, Fits}
+use Rattle.plane_rows.specs.Rows.{addLine}
+use Rattle.plane_rows.specs.declared.PlaneSofar.{PlaneSofar}
 
 module _ (line : ℕ → Cell) (s : PlaneSofar) (d : List ℕ) where
   pub line-over : planeRows ≤ s .rows → refused OverLimit ≡ addLine line (rowsOf s d)

@@ -1,6 +1,6 @@
--- `step::column_if` meets its contract.
-use Rattle.step.proofs.column_if.Statement.{statement}
-use Rattle.step.proofs.column_if.Tie as tie
+-- `plane_rows::column_if` meets its contract.
+use Rattle.plane_rows.proofs.column_if.Statement.{statement}
+use Rattle.plane_rows.proofs.column_if.Tie as tie
 
 returns : tie.Need-returns
 returns c = rw (c .if1 .taken)

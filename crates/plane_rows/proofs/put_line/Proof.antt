@@ -1,11 +1,11 @@
--- `step::put_line` meets its contract.
+-- `plane_rows::put_line` meets its contract.
 use Prim.Native.Nat.{_-_, _≤_}
 use native.Mathlib.Omega.{arith}
 use Rattle.cells.proofs.FillLaws.{RowFilled, row-start, row-next, row-end}
-use Rattle.step.specs.Made.{lineCell}
+use Rattle.plane_rows.specs.Made.{lineCell}
 use borrow.Author.Needs.{needs}
-use Rattle.step.proofs.put_line.Statement.{statement}
-use Rattle.step.proofs.put_line.Tie as tie
+use Rattle.plane_rows.proofs.put_line.Statement.{statement}
+use Rattle.plane_rows.proofs.put_line.Tie as tie
 
 abbrev Inv-loop : tie.InvT-loop
 Inv-loop plane₀ row width main output annotation i₀ plane i = (i ≤ width) × RowFilled (lineCell main output annotation) plane₀ plane row i
