@@ -28,7 +28,7 @@ use Rattle.text_planes.specs.declared.RegionsRead.{RegionsRead}
 use Rattle.text_planes.specs.declared.RegionsRead.the-variants.{Read, NotRead}
 use Rattle.cells.specs.Plane.{Plane, planeIn, PlaneFits}
 use Rattle.cells.specs.Spans.{textsIn}
-use Rattle.regions.specs.Rects.{rectsOf}
+use Rattle.rects.specs.Rects.{rectsOf}
 use Rattle.step.specs.Made.{planeMade, MadeFits, StepRoom}
 use Rattle.step.specs.PlaneStep.{planeOf}
 use Rattle.step.specs.declared.PlaneMade.{PlaneMade}

@@ -8,7 +8,7 @@ ghost use Prim.Native.Nat.{_+_, _*_, _≤_};
 ghost use lib.ListN.{length};
 ghost use Rattle.lists.specs.Picture.{canvas};
 ghost use Rattle.model.specs.Limits.{regionCount};
-ghost use Rattle.regions.specs.Rects.{rectsOf};
+ghost use Rattle.rects.specs.Rects.{rectsOf};
 ghost use Rattle.step.specs.PlaneStep.{planeOf};
 ghost use Rattle.text_planes.specs.RegionTexts.{regionTextsOf};
 ghost use Rattle.print.specs.Decimal.{Written};

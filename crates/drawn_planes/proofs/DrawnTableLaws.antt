@@ -23,7 +23,7 @@ use Rattle.cells.specs.Spans.{offsetAt, lengthAt, textAt, textsIn}
 use Rattle.frames.specs.Body.{bodyOf}
 use Rattle.outline.specs.Outline.{searchOf, namedBy, namedOf, tableOf, outlineBy, outlineOf}
 use Rattle.outline.specs.declared.Outline.{Outline}
-use Rattle.regions.specs.Rects.{Layer}
+use Rattle.regions.specs.Slices.{Layer}
 use Rattle.scan.specs.Canvas.{rowsAt}
 use Rattle.scan.specs.Rows.{widest}
 use Rattle.scan.proofs.Answers.{fits-size}

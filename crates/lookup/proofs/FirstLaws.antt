@@ -6,7 +6,7 @@ use lib.{Dec.ltb, Dec.leb, ListN.length, ListN.getD, ListN.set, ListN.take, List
 use borrow.Author.Tests.{lt-ltb, le-ltb, ltb-true, ltb-false, leb-true}
 use Rattle.lists.{specs.Answer.ok, specs.Answer.refused, specs.Choose.choose, specs.Run.run, proofs.AnswerLaws.refused-ok, proofs.RunLaws.length-run, proofs.RunLaws.build-next, proofs.RunLaws.getD-build, proofs.Tests.by-flag, proofs.Tests.both}
 use Rattle.model.{specs.Geometry.containsOf, specs.Refusals.Reading, specs.declared.Rect.Rect, specs.declared.Refusal.the-variants.RegionNotFound}
-use Rattle.regions.specs.Rects.{rectAt, rectsOf}
+use Rattle.rects.specs.Rects.{rectAt, rectsOf}
 use Rattle.lookup.specs.{Lookup.regionFrom, Lookup.regionOf, Lookup.firstOf, Numbers.none, Numbers.Above, Numbers.Without}
 
 -- the region of a frame, by the number of the first rect that contains it

@@ -5,7 +5,8 @@ use native.Mathlib.{Nat.le-trans, Nat.le-div-iff-mul-le, Nat.div-mul-le-self, Om
 use lib.{Dec.ltb, ListN.length, ListN.getD, ListN.set, Seq.getD-set-same, Seq.getD-set-other}
 use borrow.Author.Tests.{ltb-true, ltb-false}
 use Rattle.lists.{specs.Picture.canvas, specs.Picture.at, proofs.PlaceLaws.columns, proofs.PlaceLaws.at-canvas, proofs.RunLaws.length-run, proofs.Tests.by-flag, proofs.Tests.true-false}
-use Rattle.regions.{specs.Rects.rectAt, specs.Rects.rectsOf, specs.Regions.Finder, specs.Regions.isCorner}
+use Rattle.rects.specs.Rects.{rectAt, rectsOf}
+use Rattle.regions.specs.Regions.{Finder, isCorner}
 use Rattle.lookup.specs.{Lookup.firstOf, Lookup.numberOf, Lookup.Numbered, Numbers.Above, Numbers.numberIn, Numbers.Seen, Numbers.Stored, declared.Sought.Sought}
 
 pub number-small : (s : Sought) (k n : ℕ) → k < 2 ^ 32 → n < 2 ^ 32 → numberIn s k n < 2 ^ 32

@@ -7,8 +7,8 @@ use lib.ListN.{length, getD, set}
 use Rattle.lists.specs.Choose.{choose}
 use Rattle.model.specs.Geometry.{containsOf}
 use Rattle.model.specs.declared.Rect.{Rect}
+use Rattle.rects.specs.Rects.{rectAt}
 use Rattle.regions.specs.Corners.{cornerIn, NextCorner}
-use Rattle.regions.specs.Rects.{rectAt}
 use Rattle.regions.specs.Regions.{Finder}
 use Rattle.lookup.specs.Lookup.{firstOf, numberOf}
 use Rattle.lookup.specs.declared.Sought.{Sought}

@@ -8,32 +8,12 @@ ghost use Prim.Native.Nat.{_+_, _*_, _<_, _≤_, _^_};
 ghost use lib.ListN.{length, take, drop};
 ghost use Rattle.lists.specs.Picture.{canvas};
 ghost use Rattle.model.specs.Limits.{regionCount};
-ghost use Rattle.regions.specs.Rects.{rectAt, rectsOf, Layer};
+ghost use Rattle.rects.specs.Rects.{rectsOf};
+ghost use Rattle.regions.specs.Slices.{Layer};
 ghost use Rattle.walks.specs.Frame.{frameOf};
 ghost use Rattle.walks.specs.Kinds.{grid};
 ghost use Rattle.lookup.specs.Lookup.{firstOf, Numbered};
 ghost use Rattle.lookup.specs.Numbers.{Above, numberIn, Seen, Stored, Without};
-
-// The rect of four numbers.
-fn rect_of(left: u32, top: u32, right: u32, bottom: u32) -> Rect
-    ensures { λ r. ⌜ r ≡ record { left = left; top = top; right = right; bottom = bottom } ⌝ }
-{
-    Rect {
-        left: left as usize,
-        top: top as usize,
-        right: right as usize,
-        bottom: bottom as usize,
-    }
-}
-
-// Rect k of a slice of numbers.
-fn rect_at(nums: &[u32], k: usize) -> Rect
-    requires { ⌜ k * 4 + 4 ≤ length (now nums) ⌝ }
-    ensures { λ r. ⌜ r ≡ rectAt (now (nums .entry)) k ⌝ }
-{
-    let p = k * 4;
-    rect_of(nums[p], nums[p + 1], nums[p + 2], nums[p + 3])
-}
 
 // The first `count` rects, in row order.
 fn fill(rects: &mut [Rect], nums: &[u32], count: usize)
@@ -42,7 +22,7 @@ fn fill(rects: &mut [Rect], nums: &[u32], count: usize)
 {
     let mut i: usize = 0;
     while i < count {
-        let r = rect_at(nums, i);
+        let r = rects::rect_at(nums, i);
         rects[i] = r;
         i += 1;
     }
@@ -55,7 +35,7 @@ fn live(nums: &[u32], count: usize, from: usize, row: usize) -> usize
 {
     let mut at = from;
     while at < count {
-        let r = rect_at(nums, at);
+        let r = rects::rect_at(nums, at);
         if row < r.bottom {
             return at;
         }

@@ -18,7 +18,8 @@ use Rattle.model.specs.declared.Rect.{Rect}
 use Rattle.walks.specs.Frame.{Kind, rectOf, frameOf}
 use Rattle.walks.specs.Kinds.{thin}
 use Rattle.walks.proofs.FrameLaws.{accepted}
-use Rattle.regions.specs.Rects.{rectAt, rectsOf, regionsIn, RectIn}
+use Rattle.rects.specs.Rects.{rectAt, rectsOf, RectIn}
+use Rattle.regions.specs.Slices.{regionsIn}
 use Rattle.regions.specs.Regions.{cornersOf, addRegion, regionsBy, regionsOf}
 use Rattle.regions.specs.declared.Counted.the-variants.{Regions}
 

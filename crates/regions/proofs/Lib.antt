@@ -1,5 +1,4 @@
--- Laws of rects in a slice, of corners and of regions.
-pub mod RectsLaws
+-- Laws of corners and of regions.
 pub mod CornerLaws
 pub mod RegionLaws
 pub mod InsideLaws

@@ -23,7 +23,8 @@ use Rattle.model.specs.declared.Refusal.the-variants.{OverLimit}
 use Rattle.walks.specs.Frame.{Kind, Place, rectOf, frameOf}
 use Rattle.walks.proofs.FrameLaws.{accepted}
 use Rattle.regions.specs.Corners.{cornerIn, NextCorner}
-use Rattle.regions.specs.Rects.{rectAt, rectsOf, regionsIn, Small, Layer}
+use Rattle.rects.specs.Rects.{rectAt, rectsOf, Small}
+use Rattle.regions.specs.Slices.{regionsIn, Layer}
 use Rattle.regions.specs.Regions.{Finder, isCorner, cornersOf, addRegion, regionsBy}
 use Rattle.regions.specs.Within.{addWithin}
 use Rattle.regions.specs.declared.Counted.{Counted}

@@ -1,4 +1,4 @@
 pub mod Regions
 pub mod Corners
-pub mod Rects
+pub mod Slices
 pub mod Within

@@ -1,22 +1,22 @@
 // The regions of THIN, in row order, as rects in a slice of four numbers each.
-use model::Rect;
 use model::Refusal;
 use model::box_drawing::*;
 use model::limits::REGIONS;
 use walks::Framed;
 ghost use mathlib.Core.Path.{_≡_};
-ghost use mathlib.Core.List.{[], _∷_, _++_};
+ghost use mathlib.Core.List.{[]};
 ghost use Prim.Native.Nat.{_+_, _*_, _<_, _≤_};
 ghost use lib.ListN.{length};
 ghost use Rattle.lists.specs.Answer.{each};
 ghost use Rattle.lists.specs.OneOf.{anyAt};
 ghost use Rattle.lists.specs.Picture.{canvas};
 ghost use Rattle.model.specs.Limits.{regionCount};
+ghost use Rattle.rects.specs.Rects.{rectsOf};
 ghost use Rattle.walks.specs.Frame.{frameOf};
 ghost use Rattle.walks.specs.Kinds.{thin};
 ghost use Rattle.regions.specs.Regions.{isCorner, cornersOf, addRegion, regionsOf};
 ghost use Rattle.regions.specs.Corners.{cornerIn, Seeking, NextCorner};
-ghost use Rattle.regions.specs.Rects.{rectsOf, regionsIn, Small, Layer};
+ghost use Rattle.regions.specs.Slices.{regionsIn, Layer};
 ghost use Rattle.regions.specs.Within.{addWithin};
 
 // So many regions stand in the slice, or why they cannot.
@@ -91,18 +91,6 @@ fn count_corners(layer: &[u32], w: usize, h: usize) -> usize
     n
 }
 
-// Rect n of a slice.
-fn put_rect(rects: &mut [u32], n: usize, r: Rect)
-    requires { ⌜ (n * 4 + 4 ≤ length (now rects)) × Small r ⌝ }
-    ensures { λ _. ⌜ rectsOf (now (rects .exit)) (n + 1) ≡ rectsOf (now (rects .entry)) n ++ (r ∷ []) ⌝ }
-{
-    let p = n * 4;
-    rects[p] = r.left as u32;
-    rects[p + 1] = r.top as u32;
-    rects[p + 2] = r.right as u32;
-    rects[p + 3] = r.bottom as u32;
-}
-
 // The region whose corner stands at place i, as rect n.
 fn add_region(layer: &[u32], w: usize, h: usize, i: usize, rects: &mut [u32], n: usize) -> Counted
     requires { ⌜ Layer w h (length (now layer)) × (i < h * w) × (n * 4 + 4 ≤ length (now rects)) ⌝ }
@@ -110,7 +98,7 @@ fn add_region(layer: &[u32], w: usize, h: usize, i: usize, rects: &mut [u32], n:
 {
     match frames::recognize_region(layer, w, h, i % w, i / w) {
         Framed::Closed(r) => {
-            put_rect(rects, n, r);
+            rects::put_rect(rects, n, r);
             Counted::Regions(n + 1)
         }
         Framed::NotFramed(r) => Counted::NotCounted(r),

@@ -11,7 +11,7 @@ use Rattle.lists.specs.Run.{run, build}
 use Rattle.lists.proofs.RunLaws.{length-run}
 use Rattle.model.specs.Limits.{textBytes}
 use Rattle.model.specs.declared.Rect.{Rect}
-use Rattle.regions.specs.Rects.{rectAt, rectsOf}
+use Rattle.rects.specs.Rects.{rectAt, rectsOf}
 use Rattle.texts.specs.RegionText.{packed}
 use Rattle.cells.specs.Spans.{offsetAt, lengthAt, textAt, textsIn}
 use Rattle.texts.proofs.BuildLaws.{build-next, grows}

@@ -3,7 +3,7 @@ ghost use mathlib.Core.List.{[], _∷_, _++_};
 ghost use Prim.Native.Nat.{_+_, _*_, _≤_, _<_};
 ghost use lib.ListN.{length};
 ghost use Rattle.lists.specs.Picture.{canvas};
-ghost use Rattle.regions.specs.Rects.{rectAt, rectsOf};
+ghost use Rattle.rects.specs.Rects.{rectAt, rectsOf};
 ghost use Rattle.cells.specs.Spans.{offsetAt, lengthAt, textAt, textsIn};
 ghost use Rattle.print.specs.Decimal.{Written};
 ghost use Rattle.print.specs.Lines.{lineFeed};
@@ -65,7 +65,7 @@ pub fn put_layers(
 }
 
 // A number and a blank.
-fn put_spaced(out: &mut [u8], at: usize, n: u32) -> usize
+fn put_spaced(out: &mut [u8], at: usize, n: usize) -> usize
     requires { ⌜ at + 21 ≤ length (now out) ⌝ }
     ensures { λ r. ⌜ Written (now (out .entry)) (now (out .exit)) at (numberWord n) 21 r ⌝ }
 {
@@ -78,10 +78,11 @@ fn put_rect(out: &mut [u8], at: usize, rects: &[u32], k: usize) -> usize
     requires { ⌜ (at + 84 ≤ length (now out)) × (k * 4 + 4 ≤ length (now rects)) ⌝ }
     ensures { λ r. ⌜ Written (now (out .entry)) (now (out .exit)) at (rectWords (rectAt (now (rects .entry)) k)) 84 r ⌝ }
 {
-    let a = put_spaced(out, at, rects[k * 4]);
-    let b = put_spaced(out, a, rects[k * 4 + 1]);
-    let c = put_spaced(out, b, rects[k * 4 + 2]);
-    put_spaced(out, c, rects[k * 4 + 3])
+    let r = rects::rect_at(rects, k);
+    let a = put_spaced(out, at, r.left);
+    let b = put_spaced(out, a, r.top);
+    let c = put_spaced(out, b, r.right);
+    put_spaced(out, c, r.bottom)
 }
 
 // Text k, and a line feed.

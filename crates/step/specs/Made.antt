@@ -11,7 +11,7 @@ use Rattle.model.specs.declared.Rect.{Rect}
 use Rattle.model.specs.declared.Refusal.{Refusal}
 use Rattle.model.specs.declared.Refusal.the-variants.{RegionNotFound}
 use Rattle.cells.specs.Plane.{Plane, planeIn, PlaneFits}
-use Rattle.regions.specs.Rects.{Layer}
+use Rattle.regions.specs.Slices.{Layer}
 use Rattle.lookup.specs.Lookup.{Numbered}
 use Rattle.walks.specs.Frame.{frameOf}
 use Rattle.walks.specs.Kinds.{grid}

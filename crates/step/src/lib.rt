@@ -16,7 +16,7 @@ ghost use Rattle.lists.specs.Picture.{pic, canvas};
 ghost use Rattle.model.specs.Limits.{planeSize};
 ghost use Rattle.cells.specs.Plane.{KeptBefore};
 ghost use Rattle.regions.specs.Corners.{NextCorner};
-ghost use Rattle.regions.specs.Rects.{rectsOf};
+ghost use Rattle.rects.specs.Rects.{rectsOf};
 ghost use Rattle.regions.specs.Regions.{isCorner};
 ghost use Rattle.walks.specs.Frame.{frameOf, Place};
 ghost use Rattle.walks.specs.Kinds.{grid};

@@ -14,7 +14,7 @@ use Rattle.cells.specs.Held.{Held}
 use Rattle.cells.specs.Plane.{Plane, planeIn, PlaneFits}
 use Rattle.cells.proofs.AmongLaws.{Among, among-regions}
 use Rattle.outline.specs.declared.Outline.{Outline}
-use Rattle.regions.specs.Rects.{rectAt, rectsOf}
+use Rattle.rects.specs.Rects.{rectAt, rectsOf}
 use Rattle.step.specs.PlaneStep.{planeOf}
 use Rattle.step.proofs.RegionsAmong.{plane-among}
 use Rattle.walks.specs.Frame.{frameOf}

@@ -10,7 +10,7 @@ use Rattle.cells.specs.Held.{Held}
 use Rattle.cells.specs.Plane.{TextPlane, planeIn}
 use Rattle.cells.specs.Spans.{textsIn}
 use Rattle.outline.specs.declared.Outline.{Outline}
-use Rattle.regions.specs.Rects.{Layer}
+use Rattle.regions.specs.Slices.{Layer}
 use Rattle.step.specs.PlaneStep.{planeBy}
 use Rattle.walks.specs.Frame.{FrameFinder, frameOf}
 use Rattle.walks.specs.Kinds as kind

@@ -7,7 +7,8 @@ use Rattle.lists.specs.Picture.{Picture}
 use Rattle.model.specs.Limits.{regionCount, textBytes}
 use Rattle.model.specs.Refusals.{Reading}
 use Rattle.model.specs.declared.Rect.{Rect}
-use Rattle.regions.specs.Rects.{rectsOf, Layer}
+use Rattle.rects.specs.Rects.{rectsOf}
+use Rattle.regions.specs.Slices.{Layer}
 use Rattle.regions.specs.Regions.{regionsBy}
 use Rattle.texts.specs.RegionText.{textsOf}
 use Rattle.walks.specs.Frame.{FrameFinder, frameOf}

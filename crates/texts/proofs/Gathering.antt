@@ -14,7 +14,7 @@ use Rattle.lists.proofs.RunLaws.{build-same, map-run}
 use Rattle.lists.proofs.Tests.{by-flag}
 use Rattle.model.specs.Limits.{textBytes}
 use Rattle.model.specs.declared.Refusal.the-variants.{OverLimit}
-use Rattle.regions.specs.Rects.{rectAt, rectsOf, RectIn}
+use Rattle.rects.specs.Rects.{rectAt, rectsOf, RectIn}
 use Rattle.texts.specs.RegionText.{textOf, packed, textsOf}
 use Rattle.cells.specs.Spans.{offsetAt, lengthAt, textAt, textsIn}
 use Rattle.texts.specs.Spans.{SpansIn, Slices, PutAt}

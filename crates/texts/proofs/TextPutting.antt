@@ -1,5 +1,5 @@
 -- A region's text that is being written, row by row.
-use mathlib.Core.Path.{_≡_, refl, ap, _∙_}
+use mathlib.Core.Path.{_≡_, refl, ap, _∙_, subst}
 use mathlib.Core.List.{List}
 use Prim.Native.Nat.{ℕ, suc, _+_, _-_, _*_, _≤_, _<_}
 use native.Mathlib.Omega.{arith}
@@ -9,7 +9,7 @@ use Rattle.lists.specs.Picture.{Picture, canvas}
 use Rattle.lists.specs.Run.{run, build}
 use Rattle.model.specs.Limits.{textBytes}
 use Rattle.model.specs.declared.Rect.{Rect}
-use Rattle.regions.specs.Rects.{RectIn}
+use Rattle.rects.specs.Rects.{RectIn}
 use Rattle.unicode.specs.Lines.{texts}
 use Rattle.unicode.specs.Trim.{trim, PartIn}
 use Rattle.utf8.specs.Utf8.{encodes}
@@ -40,6 +40,10 @@ pub record Joining (w h : ℕ) (s : List ℕ) (r : Rect) (b : ℕ) (d : List ℕ
   pub room : at ≤ textBytes
   pub done : PutAt (rowsBytes (rowsTo (canvas w h s) r (y - (r .top + 1)))) d out start at
   pub long : length out ≡ length d
+
+-- the same of an equal rect
+pub joining-of : {w h : ℕ} {s : List ℕ} {r q : Rect} {b : ℕ} {d : List ℕ} {start : ℕ} {out : List ℕ} {y at : ℕ} → r ≡ q → Joining w h s r b d start out y at → Joining w h s q b d start out y at
+joining-of {w} {h} {s} {r} {q} {b} {d} {start} {out} {y} {at} e = subst (λ (t : Rect). Joining w h s t b d start out y at) e
 
 pub joining-start : {w h : ℕ} {s : List ℕ} {r : Rect} {d : List ℕ} {start : ℕ} → h * w ≤ length s → RectIn w h r → start ≤ textBytes → textBytes + 4 ≤ length d
     → Joining w h s r (r .bottom - 1) d start d (r .top + 1) start

@@ -8,7 +8,7 @@ use Rattle.lists.specs.Put.{put}
 use Rattle.model.specs.Limits.{textBytes}
 use Rattle.model.specs.Refusals.{Reading}
 use Rattle.cells.specs.Spans.{offsetAt, lengthAt, textsIn}
-use Rattle.regions.specs.Rects.{rectAt, RectIn}
+use Rattle.rects.specs.Rects.{rectAt, RectIn}
 use Rattle.texts.specs.RegionText.{packed}
 use Rattle.texts.specs.declared.Gathered.{Gathered}
 use Rattle.texts.specs.declared.Gathered.the-variants.{Texts, NotGathered}

@@ -7,7 +7,7 @@ ghost use lib.Dec.{ltb};
 ghost use lib.ListN.{length, take, drop};
 ghost use Rattle.lists.specs.Picture.{canvas};
 ghost use Rattle.model.specs.Limits.{textBytes};
-ghost use Rattle.regions.specs.Rects.{rectAt, rectsOf, RectIn};
+ghost use Rattle.rects.specs.Rects.{rectAt, rectsOf, RectIn};
 ghost use Rattle.utf8.specs.Utf8.{encodes};
 ghost use Rattle.texts.specs.RegionText.{textOf, textsOf};
 ghost use Rattle.texts.specs.Rows.{next};
@@ -77,10 +77,11 @@ fn put_text(
     requires { ⌜ (h * w ≤ length (now text)) × (k * 4 + 4 ≤ length (now rects)) × RectIn w h (rectAt (now rects) k) × (start ≤ textBytes) × (textBytes + 4 ≤ length (now bytes)) ⌝ }
     ensures { λ r. ⌜ PutAt (textOf (canvas w h (now (text .entry))) (rectAt (now (rects .entry)) k)) (now (bytes .entry)) (now (bytes .exit)) start r ⌝ }
 {
-    let from = rects[k * 4] as usize + 1;
-    let to = rects[k * 4 + 2] as usize - 1;
-    let bottom = rects[k * 4 + 3] as usize - 1;
-    let mut y = rects[k * 4 + 1] as usize + 1;
+    let r = rects::rect_at(rects, k);
+    let from = r.left + 1;
+    let to = r.right - 1;
+    let bottom = r.bottom - 1;
+    let mut y = r.top + 1;
     let mut at = start;
     while y < bottom {
         let part = unicode::trim_codes_part(text, y * w + from, y * w + to);

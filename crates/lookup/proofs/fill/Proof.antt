@@ -23,12 +23,12 @@ use denote.Struct.Laws as LL
 use denote.Triple.{Statement.Contract, Statement.Triple, Call.calls-at, Entry.onEntry, Spec.Meets, Spec.tripleOf, Table.entered, Table.cited, Clauses.ensured, Clauses.lasts}
 use denote.Triple.Walked.{says, needs, Stays, stay-slice, stay-none-slice, stay-none, walkOf, goes-slice, goes-none-slice, goes-none, ends-at, walked, walk-meets}
 use Rattle.model.specs.declared.Rect.{Rect}
-use Rattle.regions.specs.Rects.{rectAt}
+use Rattle.rects.specs.Rects.{rectAt}
 use Rattle.lookup.specs.Numbers.{none}
 use Rattle.lookup.proofs.{FirstLaws.filled, FirstLaws.filled-none, FirstLaws.filled-length, FirstLaws.filled-next, Rows.mach, Rows.rest-of, Rows.place-fits}
 use Rattle.model.proofs.Rect as T
 use Rattle.model.proofs.Rect.Laws as T′
-use Rattle.lookup.proofs.rect_at as inner
+use Rattle.rects.proofs.rect_at as inner
 use Rattle.lookup.proofs.fill as fn
 use Rattle.lookup.proofs.fill.Code as code
 use Rattle.lookup.proofs.fill.Code.Mir as mir
@@ -194,4 +194,4 @@ fill-spec 𝓤 H 𝓜 𝓖 𝓡 =
     entered 𝓤 H (tripleOf 𝓤 H (𝓖 .A) fn.signature (fn.spec 𝓤 H (𝓖 .A) (𝓜 .mem) (𝓡 .run)))
     (tables 𝓤 H 𝓜 𝓡 code.env .C) (tables 𝓤 H 𝓜 𝓡 code.env .Λ) fn.Key.name code.function (code.unfolded 𝓤 H 𝓜 𝓡)
     (fn-meets 𝓤 H (𝓖 .A) (givenOf 𝓤 H 𝓜 𝓖) (𝓜 .mem) (𝓡 .run) (tablesOf 𝓤 H 𝓜 (tables 𝓤 H 𝓜 𝓡 code.env))
-    (cited 𝓤 H (Callee 𝓤 H (𝓖 .A) (𝓜 .mem) (𝓡 .run)) 𝓜 𝓡 code.env inner.Symbol.name inner.Symbol.routine code.calls-lookup·rect-at (inner.Met.met 𝓤 H 𝓜 𝓖 𝓡)))
+    (cited 𝓤 H (Callee 𝓤 H (𝓖 .A) (𝓜 .mem) (𝓡 .run)) 𝓜 𝓡 code.env inner.Symbol.name inner.Symbol.routine code.calls-rects·rect-at (inner.Met.met 𝓤 H 𝓜 𝓖 𝓡)))

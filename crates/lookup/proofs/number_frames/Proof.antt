@@ -24,7 +24,8 @@ use denote.Triple.{Statement.Contract, Statement.Triple, Call.calls-at, Call.cal
 use denote.Triple.Walked.{says, needs, Stays, stay-slice, stay-none, stay-none-slice, walkOf, goes-slice, goes-none, goes-none-slice, ends-at, walked, walk-meets}
 use Rattle.lists.{specs.Picture.canvas, proofs.RunLaws.length-run}
 use Rattle.model.{specs.Limits.regionCount, specs.declared.Rect.Rect}
-use Rattle.regions.{specs.Rects.rectAt, specs.Rects.rectsOf, specs.Rects.Layer, specs.Regions.Finder}
+use Rattle.rects.specs.Rects.{rectAt, rectsOf}
+use Rattle.regions.{specs.Slices.Layer, specs.Regions.Finder}
 use Rattle.walks.{specs.Frame.frameOf, specs.Kinds.grid}
 use Rattle.lookup.specs.{Lookup.firstOf, Lookup.Numbered, Numbers.none, Numbers.Above, Numbers.Without, Numbers.numberIn, Numbers.Seen, Numbers.Stored, declared.Sought.Sought}
 use Rattle.lookup.proofs.{Again.LentAgain, Again.lends-again, Again.comes-back, FirstLaws.filled, FirstLaws.filled-take, FirstLaws.first-few, FirstLaws.without-above, NumberLaws.Numbering, NumberLaws.numbering-start, NumberLaws.above-corner, NumberLaws.numbering-next, NumberLaws.numbering-end, Rows.mach, Rows.rest-of, Rows.blankVal, Rows.none-is, Rows.blanks-typed, Rows.row-in, Rows.row-room, Rows.big}

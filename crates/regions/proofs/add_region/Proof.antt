@@ -11,7 +11,7 @@ use Rattle.model.specs.declared.Rect.{Rect}
 use Rattle.walks.specs.Frame.{frameOf, framedIn}
 use Rattle.walks.specs.Kinds.{thin}
 use Rattle.walks.specs.declared.Framed.{Framed}
-use Rattle.regions.specs.Rects.{rectsOf}
+use Rattle.rects.specs.Rects.{rectsOf}
 use Rattle.regions.specs.Regions.{addRegion}
 use Rattle.regions.proofs.RegionLaws.{place-of, frame-small}
 use borrow.Author.Needs.{needs}

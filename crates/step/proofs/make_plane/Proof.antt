@@ -1,6 +1,6 @@
 -- `step::make_plane` meets its contract.
 use Rattle.lists.proofs.RunLaws.{length-run}
-use Rattle.regions.specs.Rects.{rectAt, rectsOf}
+use Rattle.rects.specs.Rects.{rectAt, rectsOf}
 use borrow.Author.Needs.{needs}
 use Rattle.step.proofs.make_plane.Statement.{statement}
 use Rattle.step.proofs.make_plane.Tie as tie

@@ -5,7 +5,7 @@ use Prim.Native.Nat.{ℕ}
 use Rattle.lists.specs.Answer.{ok}
 use Rattle.lists.specs.Picture.{canvas}
 use Rattle.cells.specs.Spans.{textsIn}
-use Rattle.regions.specs.Rects.{rectsOf}
+use Rattle.rects.specs.Rects.{rectsOf}
 use Rattle.step.specs.Made.{planeMade, MadeFits}
 use Rattle.step.specs.declared.PlaneMade.{PlaneMade}
 use Rattle.text_planes.specs.RegionTexts.{Regions, regionTextsOf, regionsIn, UsedIn}

@@ -4,7 +4,7 @@ use mathlib.Core.Path.{_≡_, sym, ap, subst, _∙_}
 use Prim.Native.Nat.{ℕ, _≤_}
 use Rattle.lists.specs.Picture.{Picture, canvas}
 use Rattle.model.specs.Limits.{regionCount}
-use Rattle.regions.specs.Rects.{regionsIn}
+use Rattle.regions.specs.Slices.{regionsIn}
 use Rattle.regions.specs.Regions.{regionsOf}
 use Rattle.regions.specs.declared.Counted.{Counted}
 use Rattle.regions.specs.declared.Counted.the-variants.{Regions}

@@ -1,10 +1,10 @@
--- `regions::put_rect` meets its contract.
+-- `rects::put_rect` meets its contract.
 use lib.ListN.{length-set}
-use Rattle.regions.proofs.RectsLaws.{next-rect}
+use Rattle.rects.proofs.RectsLaws.{next-rect}
 use native.Mathlib.Omega.{arith}
 use borrow.Author.Needs.{needs}
-use Rattle.regions.proofs.put_rect.Statement.{statement}
-use Rattle.regions.proofs.put_rect.Tie as tie
+use Rattle.rects.proofs.put_rect.Statement.{statement}
+use Rattle.rects.proofs.put_rect.Tie as tie
 
 mul-p : tie.Need-mul-p
 mul-p c = search needs

@@ -8,7 +8,7 @@ use lib.ListN.{length, getD, set, length-set}
 use lib.Seq.{getD-set-same, getD-set-other}
 use Rattle.lists.proofs.RunLaws.{run-next, run-same}
 use Rattle.model.specs.declared.Rect.{Rect}
-use Rattle.regions.specs.Rects.{rectAt, rectsOf}
+use Rattle.rects.specs.Rects.{rectAt, rectsOf}
 
 -- a number stored behind a place leaves what stands there
 before : (d : List ℕ) (i j v : ℕ) → j < i → getD (set d i v) j 0 ≡ getD d j 0

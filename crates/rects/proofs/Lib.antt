@@ -1,0 +1,2 @@
+-- Laws of rects in a slice.
+pub mod RectsLaws
