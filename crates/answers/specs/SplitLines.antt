@@ -4,7 +4,8 @@ use mathlib.Core.Option.{Option, none, some}
 use Prim.Native.Nat.{ℕ}
 use Rattle.lists.specs.Answer.{ok, refused}
 use Rattle.model.specs.Refusals.{Reading, numbers}
-use Rattle.utils.specs.Split.{Values, splitOf}
+use Rattle.values.specs.Values.{Values}
+use Rattle.utils.specs.Split.{splitOf}
 use Rattle.print.specs.Lines.{lineFeed, valuesLine, refusedLine}
 
 -- "own" and a line feed

@@ -11,7 +11,7 @@ use Rattle.model.specs.Refusals.{Reading}
 use Rattle.cells.specs.Plane.{Plane}
 use Rattle.record.specs.Policy.{Text, Input, input, Output, output, Rule, rule}
 use Rattle.record.specs.Record.{inputTexts, outputTexts, ruleTexts}
-use Rattle.utils.specs.Split.{valuesOf}
+use Rattle.values.specs.Values.{valuesOf}
 use Rattle.clauses.specs.Clauses.{Found, foundOf}
 use Rattle.clauses.specs.Sizes.{sized}
 

@@ -20,7 +20,7 @@ use Rattle.model.specs.declared.Refusal.the-variants.{CharactersNotFound, Inval
 use Rattle.allowed.specs.Allowed.{allowedBy}
 use Rattle.rule_numbers.specs.Numbering.{counted}
 use Rattle.utf8.specs.Utf8.{encodes}
-use Rattle.utils.specs.Split.{valuesOf}
+use Rattle.values.specs.Values.{valuesOf}
 use Rattle.policies.specs.DrawnPolicy.{walkedPolicy}
 
 abbrev codePoints : String → List ℕ

@@ -13,9 +13,9 @@ use Rattle.model.specs.Refusals.{Reading}
 use Rattle.cells.specs.Plane.{Plane}
 use Rattle.record.specs.Policy.{Text}
 use Rattle.record.specs.Record.{bytesOf}
-use Rattle.utils.specs.Split.{valuesOf}
-use Rattle.utils.proofs.Answers.{split-length}
-use Rattle.utils.proofs.DefaultLength.{default-length}
+use Rattle.values.specs.Values.{valuesOf}
+use Rattle.values.proofs.ValueLaws.{split-length}
+use Rattle.values.proofs.DefaultLength.{default-length}
 use Rattle.allowed.specs.SheetCells.{regionAt}
 use Rattle.clauses.specs.Clauses.{present}
 use Rattle.clauses.specs.Spelled.{joinRun, readOr, cellText, whole, optional, rowTexts, firstOutput, valuesRow, namesRow, labelText, inputText, valuesText, outputText, noteTexts, entryTexts, spelled}

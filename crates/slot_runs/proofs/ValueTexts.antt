@@ -8,9 +8,9 @@ use lib.ListN.{length, take, drop}
 use Rattle.lists.proofs.Parts.{part-part}
 use Rattle.model.specs.Limits.{textBytes}
 use Rattle.record.specs.Policy.{Text}
-use Rattle.utils.specs.Split.{Values, valuesOf, MeasuredOf}
-use Rattle.utils.specs.declared.Measured.the-variants.{Plain, Marked}
-use Rattle.utils.proofs.Answers.{split-length}
+use Rattle.values.specs.Values.{Values, valuesOf, MeasuredOf}
+use Rattle.values.specs.declared.Measured.the-variants.{Plain, Marked}
+use Rattle.values.proofs.ValueLaws.{split-length}
 use Rattle.cells.proofs.SpanLaws.{part-of}
 use Rattle.clauses.specs.Clauses.{present}
 use Rattle.clauses.specs.Stated.{allowedText, defaultText}

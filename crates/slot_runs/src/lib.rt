@@ -2,7 +2,7 @@
 use allowed::CellRead;
 use record::ABSENT;
 use record::PART;
-use utils::Measured;
+use values::Measured;
 use writer::VALUES;
 ghost use mathlib.Core.List.{List, [], _∷_};
 ghost use mathlib.Core.Option.{none, some};
@@ -16,7 +16,7 @@ ghost use Rattle.record.specs.Slots.{slotLimit};
 ghost use Rattle.clauses.specs.Clauses.{present};
 ghost use Rattle.clauses.specs.Spelled.{cellText, rowTexts};
 ghost use Rattle.clauses.specs.Stated.{allowedText, defaultText};
-ghost use Rattle.utils.specs.Split.{valuesOf};
+ghost use Rattle.values.specs.Values.{valuesOf};
 ghost use Rattle.slot_runs.specs.Spelt.{Texts, partOf, PartIn, SlotPut, Room, Spelt};
 
 // The next slot, and the bytes of the texts before it.
@@ -107,7 +107,7 @@ pub fn put_values(bytes: &[u8], slots: &mut [u32], from: Filled, p: Part) -> Fil
     }
     let start = p.offset as usize;
     let end = start + p.size as usize;
-    match utils::measure_values(&bytes[start..end]) {
+    match values::measure_values(&bytes[start..end]) {
         Measured::Plain => {
             let a = put_part(slots, from, p);
             put_absent(slots, a)

@@ -2,7 +2,7 @@
 use mathlib.Core.Path.{_≡_, refl, sym, ap, _∙_}
 use mathlib.Core.Bool.{Bool, true, false}
 use mathlib.Core.List.{List}
-use mathlib.Core.Option.{none, some}
+use mathlib.Core.Option.{some}
 use Prim.Native.Nat.{ℕ, _-_, _≤_, _<_}
 use native.Mathlib.Omega.{arith}
 use borrow.Author.Tests.{lt-ltb, le-ltb}
@@ -18,15 +18,14 @@ use Rattle.model.specs.declared.Refusal.the-variants.{InvalidUtf8, OutputSliceS
 use Rattle.utf8.specs.Utf8.{checked, onText}
 use Rattle.utf8.specs.declared.Checked.{Checked}
 use Rattle.utf8.specs.declared.Checked.the-variants.{Valid, Invalid}
-use Rattle.emphasis.specs.Commas.{parts}
 use Rattle.emphasis.specs.Emphasis.{Choice, plain, marked, choiceOf}
 use Rattle.emphasis.specs.Found.{FoundIn}
-use Rattle.emphasis.proofs.Finding.{between, Sized, first-sized}
-use Rattle.utils.specs.Split.{replaceAll, Values, valuesBy, valuesOf, splitBy, splitOf, scratchBy, scratchOf, answered, Places, MeasuredOf}
-use Rattle.utils.specs.declared.Measured.the-variants.{Plain, Marked}
+use Rattle.emphasis.proofs.Finding.{between}
+use Rattle.values.specs.Values.{replaceAll, Values, valuesBy, valuesOf}
+use Rattle.values.proofs.ValueLaws.{none-chosen, chosen, bare-inside}
+use Rattle.utils.specs.Split.{splitBy, splitOf, scratchBy, scratchOf, answered, Places}
 use Rattle.utils.specs.declared.Split.{Split}
 use Rattle.utils.specs.declared.Split.the-variants.{Own, Rewritten, NotSplit}
-use Rattle.utils.proofs.Replacing.{replace-length}
 
 -- what `split_text` promises of its answer r, where the slice d has become o
 abbrev pub Promised : Split → List ℕ → List ℕ → List ℕ → Type 0
@@ -44,52 +43,24 @@ pub answer-valid : (r : Split) (t d o : List ℕ) → checked t ≡ Valid → Pr
 unfolding splitOf scratchOf
 answer-valid r t d o v p = (p .0 ∙ rw v, (p .1 .0, p .1 .1 ∙ rw v))
 
-module _ {t : List ℕ} {from to a b : ℕ} {hit : Bool} (i : FoundIn t hit from to a b) where
-  none-chosen : hit ≡ false → choiceOf t ≡ plain
-  none-chosen h = i .choice ∙ rw h
+module _ {t : List ℕ} {from to a b : ℕ} {hit : Bool} (i : FoundIn t hit from to a b) (d : List ℕ) where
+  pub answer-own : hit ≡ false → Promised Own t d d
+  answer-own h = (rw (none-chosen i h), (tt, rw (none-chosen i h)))
 
-  chosen : hit ≡ true → choiceOf t ≡ marked a (between t from to) (between t a b)
-  chosen h = i .choice ∙ rw h
+  module _ (h : hit ≡ true) {n : ℕ} (e : n ≡ length (replaceAll 0 (between t from to) (between t a b) t)) where
+    pub answer-short : length d < n → Promised (NotSplit (OutputSliceShort n)) t d d
+    answer-short l =
+        let z : ltb (length d) (length (replaceAll 0 (between t from to) (between t a b) t)) ≡ true = lt-ltb _ _ (rw e at l) in
+        (rw (chosen i h, z, e), (tt, rw (chosen i h, z)))
 
-  -- the part is not empty, and its bare text is at most as long
-  pub part-sizes : hit ≡ true → (0 < length (between t from to)) × (length (between t a b) ≤ length (between t from to))
-  part-sizes h = rw (chosen h) at (first-sized 0 (parts t))
-
-  -- the allowed values, where they are the text itself, and where they are rewritten
-  pub allowed-plain : hit ≡ false → valuesOf t .allowed ≡ t
-  unfolding valuesOf
-  allowed-plain h = rw (none-chosen h)
-
-  pub allowed-marked : hit ≡ true → valuesOf t .allowed ≡ replaceAll 0 (between t from to) (between t a b) t
-  unfolding valuesOf
-  allowed-marked h = rw (chosen h)
-
-  pub measured-plain : hit ≡ false → MeasuredOf Plain t
-  unfolding valuesOf
-  measured-plain h = rw (none-chosen h)
-
-  pub measured-marked : hit ≡ true → {n : ℕ} → n ≡ length (replaceAll 0 (between t from to) (between t a b) t) → MeasuredOf (Marked n a b) t
-  unfolding valuesOf
-  measured-marked h e = (e ∙ rw (chosen h), rw (chosen h), i .ordered, omega (arith, i .high, i .inside))
-
-  module _ (d : List ℕ) where
-    pub answer-own : hit ≡ false → Promised Own t d d
-    answer-own h = (rw (none-chosen h), (tt, rw (none-chosen h)))
-
-    module _ (h : hit ≡ true) {n : ℕ} (e : n ≡ length (replaceAll 0 (between t from to) (between t a b) t)) where
-      pub answer-short : length d < n → Promised (NotSplit (OutputSliceShort n)) t d d
-      answer-short l =
-          let z : ltb (length d) (length (replaceAll 0 (between t from to) (between t a b) t)) ≡ true = lt-ltb _ _ (rw e at l) in
-          (rw (chosen h, z, e), (tt, rw (chosen h, z)))
-
-      pub answer-rewritten : {o : List ℕ} → n ≤ length d → o ≡ put d 0 (replaceAll 0 (between t from to) (between t a b) t) → Promised (Rewritten n a b) t d o
-      answer-rewritten {o} l u =
-          let z : ltb (length d) (length (replaceAll 0 (between t from to) (between t a b) t)) ≡ false = le-ltb _ _ (rw e at l) in
-          let w : take n o ≡ replaceAll 0 (between t from to) (between t a b) t =
-          ap (take n) (u ∙ put-front d _ n (sym e)) ∙ take-at _ (drop n d) n (sym e) in
-          let m : length o ≡ length d = ap length u ∙ length-put d 0 _ (omega arith) in
-          let places : Places (Rewritten n a b) t o = (omega arith, (rw (chosen h), (i .ordered, omega (arith, i .high, i .inside)))) in
-          (rw (chosen h, z, w), (places, u ∙ rw (chosen h, z)))
+    pub answer-rewritten : {o : List ℕ} → n ≤ length d → o ≡ put d 0 (replaceAll 0 (between t from to) (between t a b) t) → Promised (Rewritten n a b) t d o
+    answer-rewritten {o} l u =
+        let z : ltb (length d) (length (replaceAll 0 (between t from to) (between t a b) t)) ≡ false = le-ltb _ _ (rw e at l) in
+        let w : take n o ≡ replaceAll 0 (between t from to) (between t a b) t =
+        ap (take n) (u ∙ put-front d _ n (sym e)) ∙ take-at _ (drop n d) n (sym e) in
+        let m : length o ≡ length d = ap length u ∙ length-put d 0 _ (omega arith) in
+        let places : Places (Rewritten n a b) t o = (omega arith, (rw (chosen i h), (i .ordered, bare-inside i))) in
+        (rw (chosen i h, z, w), (places, u ∙ rw (chosen i h, z)))
 
 -- a split that is not refused gives the values of the text
 pub split-ok : (t : List ℕ) (room : ℕ) (v : Values) → splitOf t room ≡ ok v → (checked t ≡ Valid) × (v ≡ valuesOf t)
@@ -107,32 +78,8 @@ split-ok t room v e = go (checked t) refl e
 
 -- the allowed values and the default that an answer names
 module _ (t d : List ℕ) (room : ℕ) where
-  pub values-own : answered Own t d ≡ splitOf t room → (t ≡ valuesOf t .allowed) × (none ≡ valuesOf t .default)
-  values-own e = let v = split-ok t room _ (sym e) .1 in (ap (λ (x : Values). x .allowed) v, ap (λ (x : Values). x .default) v)
-
   pub values-allowed : (n from to : ℕ) → answered (Rewritten n from to) t d ≡ splitOf t room
       → (take n d ≡ valuesOf t .allowed) × (some (take (to - from) (drop from t)) ≡ valuesOf t .default)
   values-allowed n from to e =
       let v = split-ok t room _ (sym e) .1 in
       (ap (λ (x : Values). x .allowed) v, ap (λ (x : Values). x .default) v)
-
--- the allowed values are no longer than the text, so a slice of its length has room for them
-pub split-length : (t : List ℕ) → length (valuesOf t .allowed) ≤ length t
-unfolding valuesOf
-split-length t = go (choiceOf t) (first-sized 0 (parts t))
-  where
-    go : (c : Choice) → Sized c → length (valuesBy c t .allowed) ≤ length t
-    go plain h = omega arith
-    go (marked place part bare) h = replace-length part bare (h .0) (h .1) t
-
-split-fits : (t : List ℕ) (room : ℕ) → length t ≤ room → splitBy (choiceOf t) t room ≡ ok (valuesOf t)
-unfolding valuesOf
-split-fits t room h = go (choiceOf t) (split-length t)
-  where
-    go : (c : Choice) → length (valuesBy c t .allowed) ≤ length t → splitBy c t room ≡ ok (valuesBy c t)
-    go plain l = refl
-    go (marked place part bare) l = rw (le-ltb room (length (replaceAll 0 part bare t)) (omega arith))
-
-pub split-room : (t : List ℕ) (room : ℕ) → checked t ≡ Valid → length t ≤ room → splitOf t room ≡ ok (valuesOf t)
-unfolding splitOf
-split-room t room v h = rw v (split-fits t room h)

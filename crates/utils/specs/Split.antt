@@ -1,8 +1,8 @@
 -- The value split of document 01: `get_allowed_and_default_output_values` of the Rust.
-use mathlib.Core.List.{List, [], _∷_, _++_}
-use mathlib.Core.Option.{Option, none, some}
+use mathlib.Core.List.{List}
+use mathlib.Core.Option.{none, some}
 use mathlib.Core.Path.{_≡_}
-use Prim.Native.Nat.{ℕ, zero, suc, _-_, _≤_}
+use Prim.Native.Nat.{ℕ, _-_, _≤_}
 use lib.Dec.{ltb}
 use lib.ListN.{length, take, drop}
 use Rattle.lists.specs.Answer.{ok, refused}
@@ -11,30 +11,10 @@ use Rattle.lists.specs.Put.{put}
 use Rattle.model.specs.Refusals.{Reading}
 use Rattle.model.specs.declared.Refusal.the-variants.{InvalidUtf8, OutputSliceShort}
 use Rattle.utf8.specs.Utf8.{checked, onText}
-use Rattle.emphasis.specs.Emphasis.{Choice, plain, marked, startsWith, choiceOf}
-use Rattle.utils.specs.declared.Measured.{Measured}
-use Rattle.utils.specs.declared.Measured.the-variants.{Plain, Marked}
+use Rattle.emphasis.specs.Emphasis.{Choice, plain, marked, choiceOf}
+use Rattle.values.specs.Values.{replaceAll, Values, valuesBy}
 use Rattle.utils.specs.declared.Split.{Split}
 use Rattle.utils.specs.declared.Split.the-variants.{Own, Rewritten, NotSplit}
-
--- q for every p in the text, from the left; `skip` counts what is left of a p
-unfoldable pub replaceAll : ℕ → List ℕ → List ℕ → List ℕ → List ℕ
-replaceAll skip p q [] = []
-replaceAll (suc skip) p q (c ∷ s) = replaceAll skip p q s
-replaceAll zero p q (c ∷ s) = choose (startsWith p (c ∷ s)) (q ++ replaceAll (length p - 1) p q s) (c ∷ replaceAll zero p q s)
-
--- allowed values, and a default that may be absent
-pub record Values : Type 0 where
-  pub allowed : List ℕ
-  pub default : Option (List ℕ)
-
-abbrev pub valuesBy : Choice → List ℕ → Values
-valuesBy plain t = record { allowed = t; default = none }
-valuesBy (marked place part bare) t = record { allowed = replaceAll 0 part bare t; default = some bare }
-
--- the values of a text in UTF-8: the text itself and no default, or the text with the part in emphasis bare everywhere, and the bare part
-unfoldable pub valuesOf : List ℕ → Values
-valuesOf t = valuesBy (choiceOf t) t
 
 -- a rewritten text goes to a slice of `room` bytes: number 27 where it is too short. The own text needs none
 abbrev pub splitBy : Choice → List ℕ → ℕ → Reading Values
@@ -78,9 +58,3 @@ abbrev pub allowedIn : Split → List ℕ → List ℕ → List ℕ
 allowedIn Own t d = t
 allowedIn (Rewritten n from to) t d = take n d
 allowedIn (NotSplit r) t d = t
-
--- what is measured of the values of a text: they are the text itself; or n bytes of allowed values, and a part of the text is the default
-abbrev pub MeasuredOf : Measured → List ℕ → Type 0
-MeasuredOf Plain t = valuesOf t ≡ record { allowed = t; default = none }
-MeasuredOf (Marked n from to) t =
-    (n ≡ length (valuesOf t .allowed)) × (valuesOf t .default ≡ some (take (to - from) (drop from t))) × (from ≤ to) × (to ≤ length t)

@@ -24,8 +24,8 @@ use Rattle.record.proofs.Steps.{slot-written}
 use Rattle.record.proofs.Texts.{length-packed}
 use Rattle.record.proofs.TotalFits.{total-fits}
 use Rattle.record.proofs.Writing.{with-none, length-with, with-next, text-fits, begun-whole, begun-short, headed-short, standing-start, standing-next, standing-end}
-use Rattle.utils.specs.Split.{valuesOf}
-use Rattle.utils.proofs.Answers.{split-length}
+use Rattle.values.specs.Values.{valuesOf}
+use Rattle.values.proofs.ValueLaws.{split-length}
 use Rattle.writer.specs.PartsHeld.{PartsHeld}
 use Rattle.writer.specs.SlotRecord.{tableFrom, recordIn, SlotsHeld}
 use Rattle.writer.specs.SlotTexts.{textOfKind, slotText, textsFrom}

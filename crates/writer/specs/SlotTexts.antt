@@ -5,7 +5,7 @@ use Prim.Native.Nat.{ℕ, zero, suc}
 use Rattle.lists.specs.Run.{run}
 use Rattle.record.specs.Policy.{Text}
 use Rattle.record.specs.Slots.{kindAt, partAt}
-use Rattle.utils.specs.Split.{valuesOf}
+use Rattle.values.specs.Values.{valuesOf}
 
 -- the text of a kind, of a part
 abbrev pub textOfKind : ℕ → List ℕ → Text

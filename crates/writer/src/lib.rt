@@ -34,7 +34,7 @@ fn write_values(bytes: &[u8], slots: &[u32], slot: usize, offset: usize, out: &m
     ensures { λ _. ⌜ now (out .exit) ≡ withTexts (now (out .entry)) slot offset (slotText (now (bytes .entry)) (now (slots .entry)) slot ∷ []) ⌝ }
 {
     let text = part_of(bytes, slots, slot);
-    let end = utils::put_values(text, out, offset);
+    let end = values::put_values(text, out, offset);
     record::put_slot(out, slot, offset, end - offset);
     end
 }

@@ -4,7 +4,7 @@ use mathlib.Core.Option.{some}
 use Prim.Native.Nat.{ℕ, _+_}
 use native.Mathlib.Omega.{arith}
 use borrow.Author.Needs.{needs}
-use Rattle.utils.specs.Split.{valuesOf}
+use Rattle.values.specs.Values.{valuesOf}
 use Rattle.slot_runs.specs.Spelt.{partOf}
 use Rattle.slot_runs.proofs.SpeltLaws.{spelt-one}
 use Rattle.slot_runs.proofs.put_rewritten.Statement.{statement}

@@ -6,7 +6,7 @@ use Prim.Native.Nat.{_+_, _≤_}
 use native.Mathlib.Omega.{arith}
 use borrow.Author.Needs.{needs}
 use Rattle.model.specs.Limits.{textBytes}
-use Rattle.utils.specs.Split.{valuesOf}
+use Rattle.values.specs.Values.{valuesOf}
 use Rattle.slot_runs.specs.Spelt.{partOf, Spelt}
 use Rattle.slot_runs.proofs.ValueTexts.{MarkedIn, values-none, values-plain, marked-in, default-in, values-marked}
 use Rattle.slot_runs.proofs.SpeltLaws.{spelt-then, spelt-as, room-next, room-less}

@@ -1,16 +1,15 @@
 -- `utils::split_text` meets its contract.
 use mathlib.Core.List.{List}
+use mathlib.Core.Path.{refl, sym}
 use Prim.Native.Nat.{ℕ}
 use native.Mathlib.Omega.{arith}
 use borrow.Author.Needs.{needs}
-use Rattle.utils.proofs.Answers.{part-sizes, answer-own, answer-short, answer-rewritten}
+use Rattle.values.proofs.ValueLaws.{part-ordered, bare-inside, part-sizes}
+use Rattle.utils.proofs.Answers.{answer-own, answer-short, answer-rewritten}
 use Rattle.utils.proofs.split_text.Statement.{statement}
 use Rattle.utils.proofs.split_text.Tie as tie
 
 -- behind the search for the first part in emphasis
-abbrev text : tie.After-first-marked → List ℕ
-text c = c .before .before .before .args .text .now
-
 abbrev scratch : tie.After-first-marked → List ℕ
 scratch c = c .before .before .before .args .scratch .now
 
@@ -18,40 +17,40 @@ first-marked-requires : tie.Need-first-marked-requires
 first-marked-requires c κs = search needs
 
 sub-periods-of : tie.Need-sub-periods-of
-sub-periods-of c = search needs
+sub-periods-of c = part-ordered (c .before .first-marked .ensures)
 
 part-periods-of-start : tie.Need-part-periods-of-start
-part-periods-of-start c = search needs
+part-periods-of-start c = part-ordered (c .before .first-marked .ensures)
 
 part-periods-of-end : tie.Need-part-periods-of-end
-part-periods-of-end c = search needs
+part-periods-of-end c = c .before .first-marked .ensures .inside
 
 slice-aggregate-periods-of : tie.Need-slice-aggregate-periods-of
-slice-aggregate-periods-of c = search needs
+slice-aggregate-periods-of c = refl
 
 periods-of-requires : tie.Need-periods-of-requires
 periods-of-requires c κs = (part-sizes (c .before .before .before .first-marked .ensures) (c .before .before .if1 .taken) .0, search needs)
 
 sub-measure : tie.Need-sub-measure
-sub-measure c = search needs
+sub-measure c = part-ordered (c .before .before .before .before .before .first-marked .ensures)
 
 part-measure-start : tie.Need-part-measure-start
-part-measure-start c = search needs
+part-measure-start c = part-ordered (c .before .before .before .before .before .first-marked .ensures)
 
 part-measure-end : tie.Need-part-measure-end
-part-measure-end c = search needs
+part-measure-end c = c .before .before .before .before .before .first-marked .ensures .inside
 
 sub-measure-2 : tie.Need-sub-measure-2
-sub-measure-2 c = search needs
+sub-measure-2 c = c .before .before .before .before .before .before .first-marked .ensures .ordered
 
 part-measure-start-2 : tie.Need-part-measure-start-2
-part-measure-start-2 c = search needs
+part-measure-start-2 c = c .before .before .before .before .before .before .first-marked .ensures .ordered
 
 part-measure-end-2 : tie.Need-part-measure-end-2
-part-measure-end-2 c = search needs
+part-measure-end-2 c = bare-inside (c .before .before .before .before .before .before .first-marked .ensures)
 
 slice-aggregate-measure : tie.Need-slice-aggregate-measure
-slice-aggregate-measure c = search needs
+slice-aggregate-measure c = sym (c .before .before .before .before .periods-of .kept .1 .0)
 
 measure-requires : tie.Need-measure-requires
 measure-requires c κs = (part-sizes (c .before .before .before .before .before .before .before .before .first-marked .ensures) (c .before .before .before .before .before .before .before .if1 .taken), c .before .before .before .before .periods-of .ensures)
@@ -63,25 +62,25 @@ returns c =
     answer-short (f .first-marked .ensures) (scratch f) (m .before .before .before .before .before .before .before .before .if1 .taken) (m .measure .ensures) (c .if2 .taken)
 
 sub-rewrite : tie.Need-sub-rewrite
-sub-rewrite c = search needs
+sub-rewrite c = part-ordered (c .before .before .before .before .before .before .before .before .before .before .first-marked .ensures)
 
 part-rewrite-start : tie.Need-part-rewrite-start
-part-rewrite-start c = search needs
+part-rewrite-start c = part-ordered (c .before .before .before .before .before .before .before .before .before .before .first-marked .ensures)
 
 part-rewrite-end : tie.Need-part-rewrite-end
-part-rewrite-end c = search needs
+part-rewrite-end c = c .before .before .before .before .before .before .before .before .before .before .first-marked .ensures .inside
 
 sub-rewrite-2 : tie.Need-sub-rewrite-2
-sub-rewrite-2 c = search needs
+sub-rewrite-2 c = c .before .before .before .before .before .before .before .before .before .before .before .first-marked .ensures .ordered
 
 part-rewrite-start-2 : tie.Need-part-rewrite-start-2
-part-rewrite-start-2 c = search needs
+part-rewrite-start-2 c = c .before .before .before .before .before .before .before .before .before .before .before .first-marked .ensures .ordered
 
 part-rewrite-end-2 : tie.Need-part-rewrite-end-2
-part-rewrite-end-2 c = search needs
+part-rewrite-end-2 c = bare-inside (c .before .before .before .before .before .before .before .before .before .before .before .first-marked .ensures)
 
 slice-aggregate-rewrite : tie.Need-slice-aggregate-rewrite
-slice-aggregate-rewrite c = search needs
+slice-aggregate-rewrite c = sym (c .before .before .before .before .before .before .before .before .before .periods-of .kept .1 .0)
 
 rewrite-requires : tie.Need-rewrite-requires
 rewrite-requires c κs =
@@ -90,7 +89,7 @@ rewrite-requires c κs =
     ((some, omega (arith, m .measure .ensures, c .before .before .before .before .if2 .left)), m .before .before .before .before .before .periods-of .ensures)
 
 same-length : tie.Need-same-length
-same-length c = search needs
+same-length c = c .before .before .rewrite .kept .1 .1 .1 .1 .1 .0
 
 returns-2 : tie.Need-returns-2
 returns-2 c =

@@ -16,7 +16,7 @@ use Rattle.unicode.proofs.TrimLength.{trim-length}
 use Rattle.emphasis.specs.Commas.{comma, parts}
 use Rattle.emphasis.specs.Emphasis.{Choice, plain, marked, marks, placed, orElse, startsWith, endsWith, emphasised, firstMarked, choiceOf}
 use Rattle.emphasis.proofs.Stripping.{strip-length}
-use Rattle.utils.specs.Split.{valuesBy, valuesOf}
+use Rattle.values.specs.Values.{valuesBy, valuesOf}
 
 -- texts of at most m bytes
 abbrev UpTo : ℕ → List ℕ → Type 0

@@ -1,8 +1,8 @@
--- `utils::measure_values` meets its contract.
+-- `values::measure_values` meets its contract.
 use borrow.Author.Needs.{needs}
-use Rattle.utils.proofs.Answers.{part-sizes, measured-plain, measured-marked}
-use Rattle.utils.proofs.measure_values.Statement.{statement}
-use Rattle.utils.proofs.measure_values.Tie as tie
+use Rattle.values.proofs.ValueLaws.{part-sizes, measured-plain, measured-marked}
+use Rattle.values.proofs.measure_values.Statement.{statement}
+use Rattle.values.proofs.measure_values.Tie as tie
 
 first-marked-requires : tie.Need-first-marked-requires
 first-marked-requires c κs = search needs

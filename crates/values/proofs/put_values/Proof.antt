@@ -1,9 +1,9 @@
--- `utils::put_values` meets its contract.
+-- `values::put_values` meets its contract.
 use mathlib.Core.Path.{refl}
 use borrow.Author.Needs.{needs}
-use Rattle.utils.proofs.Answers.{part-sizes, allowed-plain, allowed-marked}
-use Rattle.utils.proofs.put_values.Statement.{statement}
-use Rattle.utils.proofs.put_values.Tie as tie
+use Rattle.values.proofs.ValueLaws.{part-sizes, allowed-plain, allowed-marked}
+use Rattle.values.proofs.put_values.Statement.{statement}
+use Rattle.values.proofs.put_values.Tie as tie
 
 first-marked-requires : tie.Need-first-marked-requires
 first-marked-requires c κs = search needs

@@ -1,0 +1,35 @@
+-- The values of a text: its allowed values and its default, and what is measured of them.
+use mathlib.Core.List.{List, [], _∷_, _++_}
+use mathlib.Core.Option.{Option, none, some}
+use mathlib.Core.Path.{_≡_}
+use Prim.Native.Nat.{ℕ, zero, suc, _-_, _≤_}
+use lib.ListN.{length, take, drop}
+use Rattle.lists.specs.Choose.{choose}
+use Rattle.emphasis.specs.Emphasis.{Choice, plain, marked, startsWith, choiceOf}
+use Rattle.values.specs.declared.Measured.{Measured}
+use Rattle.values.specs.declared.Measured.the-variants.{Plain, Marked}
+
+-- q for every p in the text, from the left; `skip` counts what is left of a p
+unfoldable pub replaceAll : ℕ → List ℕ → List ℕ → List ℕ → List ℕ
+replaceAll skip p q [] = []
+replaceAll (suc skip) p q (c ∷ s) = replaceAll skip p q s
+replaceAll zero p q (c ∷ s) = choose (startsWith p (c ∷ s)) (q ++ replaceAll (length p - 1) p q s) (c ∷ replaceAll zero p q s)
+
+-- allowed values, and a default that may be absent
+pub record Values : Type 0 where
+  pub allowed : List ℕ
+  pub default : Option (List ℕ)
+
+abbrev pub valuesBy : Choice → List ℕ → Values
+valuesBy plain t = record { allowed = t; default = none }
+valuesBy (marked place part bare) t = record { allowed = replaceAll 0 part bare t; default = some bare }
+
+-- the values of a text in UTF-8: the text itself and no default, or the text with the part in emphasis bare everywhere, and the bare part
+unfoldable pub valuesOf : List ℕ → Values
+valuesOf t = valuesBy (choiceOf t) t
+
+-- what is measured of the values of a text: they are the text itself; or n bytes of allowed values, and a part of the text is the default
+abbrev pub MeasuredOf : Measured → List ℕ → Type 0
+MeasuredOf Plain t = valuesOf t ≡ record { allowed = t; default = none }
+MeasuredOf (Marked n from to) t =
+    (n ≡ length (valuesOf t .allowed)) × (valuesOf t .default ≡ some (take (to - from) (drop from t))) × (from ≤ to) × (to ≤ length t)
