@@ -18,8 +18,8 @@ use Rattle.layers.specs.Thin.{thinPicture}
 use Rattle.outline.specs.Outline.{outlineOf}
 use Rattle.outline.specs.declared.Outline.{Outline}
 use Rattle.outline.proofs.InsideLaws.{outline-inside}
-use Rattle.scan.specs.Canvas.{rowsAt, sizeOf, textIn, blanksIn, scannedIn}
-use Rattle.scan.specs.Rows.{widest}
+use Rattle.sheet_rows.specs.Rows.{rowsAt, widest}
+use Rattle.scan.specs.Canvas.{sizeOf, textIn, blanksIn, scannedIn}
 use Rattle.scan.specs.declared.Scanned.the-variants.{Canvas, NotScanned}
 use Rattle.scan.proofs.Answers.{scanned-size, fits-size}
 use Rattle.scan.proofs.TextLayer.{text-canvas, blanks-canvas}

@@ -9,8 +9,8 @@ use Rattle.model.specs.Limits.{canvasSize}
 use Rattle.model.specs.Refusals.{Reading}
 use Rattle.model.specs.declared.Rect.{Rect}
 use Rattle.outline.specs.declared.Outline.{Outline}
-use Rattle.scan.specs.Rows.{widest}
-use Rattle.scan.specs.Sheet.{restOf}
+use Rattle.sheet_rows.specs.Rows.{widest}
+use Rattle.sheet_rows.specs.Sheet.{restOf}
 use Rattle.utf8.specs.Utf8.{codes}
 use Rattle.canvas.specs.Layers.{textLayer, thinLayer, bodyLayer, gridLayer}
 use Rattle.canvas.specs.declared.Drawing.{Drawing}

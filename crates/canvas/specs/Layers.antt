@@ -12,8 +12,9 @@ use Rattle.grid_layer.specs.Grid.{gridPicture}
 use Rattle.layers.specs.Thin.{thinPicture}
 use Rattle.outline.specs.Outline.{outlineBy}
 use Rattle.outline.specs.declared.Outline.{Outline}
-use Rattle.scan.specs.Canvas.{rowsAt, sizeOf}
-use Rattle.scan.specs.Rows.{widest, blank, flat}
+use Rattle.sheet_rows.specs.Rows.{rowsAt, widest}
+use Rattle.scan.specs.Canvas.{sizeOf}
+use Rattle.scan.specs.Rows.{blank, flat}
 use Rattle.utf8.specs.Utf8.{checked, onText}
 use Rattle.walks.specs.Frame.{FrameFinder, frameOf}
 

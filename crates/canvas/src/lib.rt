@@ -11,7 +11,7 @@ ghost use Rattle.layers.specs.Body.{bodyPicture};
 ghost use Rattle.grid_layer.specs.Grid.{gridPicture};
 ghost use Rattle.layers.specs.Sizes.{LayersOf, BodyIn};
 ghost use Rattle.layers.specs.Thin.{thinPicture};
-ghost use Rattle.scan.specs.Canvas.{rowsAt};
+ghost use Rattle.sheet_rows.specs.Rows.{rowsAt};
 ghost use Rattle.utf8.specs.Utf8.{onText};
 ghost use Rattle.canvas.specs.Layers.{sheetOf};
 ghost use Rattle.canvas.specs.Drawn.{outlineIn, LayersIn, Ended, Room};

@@ -7,8 +7,9 @@ use Rattle.lists.specs.Picture.{within}
 use Rattle.model.specs.Box.{┌}
 use Rattle.model.specs.declared.Refusal.the-variants.{CanvasTooLarge, CharactersNotFound}
 use Rattle.outline.specs.Outline.{searchFrom, outlineBy}
+use Rattle.sheet_rows.specs.Rows.{rows, widest}
 use Rattle.scan.specs.Canvas.{sizeOf}
-use Rattle.scan.specs.Rows.{rows, widest, flat}
+use Rattle.scan.specs.Rows.{flat}
 use Rattle.canvas.specs.Layers.{drawingBy, drawingOf}
 
 -- 96 rows are looked at, 97 are too many: 2 97 1

@@ -13,8 +13,9 @@ use Rattle.emphasis.specs.Emphasis.{startsWith, endsWith, stripStart, stripEnd,
 use Rattle.values.specs.Values.{replaceAll, valuesOf}
 use Rattle.outline.specs.Outline.{searchFrom, namedBy, outlineBy}
 use Rattle.rule_numbers.specs.Numbering.{counted}
+use Rattle.sheet_rows.specs.Rows.{upTo, collect, widest}
 use Rattle.scan.specs.Canvas.{sizeOf}
-use Rattle.scan.specs.Rows.{upTo, collect, widest, flat}
+use Rattle.scan.specs.Rows.{flat}
 use Rattle.canvas.specs.Layers.{drawingBy, sheetBy}
 use Rattle.policies.specs.DrawnPolicy.{policyBy}
 use Rattle.demands.specs.Examples.{Examples}

@@ -29,8 +29,9 @@ use Rattle.clauses.specs.SheetCells.{placeInRow, placeFrom}
 use Rattle.clauses.specs.Sizes.{uneven, sized}
 use Rattle.clauses.specs.Stated.{statedBy, clausesOf}
 use Rattle.recognizer.specs.StatedPolicy.{sheetPolicy, statedPolicy}
+use Rattle.sheet_rows.specs.Rows.{upTo, collect, widest}
 use Rattle.scan.specs.Canvas.{sizeOf}
-use Rattle.scan.specs.Rows.{upTo, collect, widest, flat}
+use Rattle.scan.specs.Rows.{flat}
 use Rattle.walks.specs.Frame.{frameOf}
 use Rattle.walks.specs.Walk.{walkFrom}
 use Rattle.frames.specs.Body.{bodyOf}

@@ -14,7 +14,8 @@ use Rattle.model.specs.Limits.{canvasSize, regionCount, textBytes}
 use Rattle.model.specs.Refusals.{Reading, numbers}
 use Rattle.model.specs.declared.Refusal.{Refusal}
 use Rattle.outline.specs.declared.Outline.{Outline}
-use Rattle.scan.specs.Canvas.{rowsAt, fits, sizeOf}
+use Rattle.sheet_rows.specs.Rows.{rowsAt}
+use Rattle.scan.specs.Canvas.{fits, sizeOf}
 use Rattle.scan.proofs.Answers.{fits-size}
 use Rattle.utf8.specs.Utf8.{checked}
 use Rattle.utf8.specs.declared.Checked.{Checked}

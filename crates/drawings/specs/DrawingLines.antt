@@ -7,8 +7,7 @@ use Rattle.lists.specs.Picture.{Picture}
 use Rattle.model.specs.Refusals.{Reading, numbers}
 use Rattle.cells.specs.Plane.{Plane}
 use Rattle.outline.specs.declared.Outline.{Outline}
-use Rattle.scan.specs.Canvas.{rowsAt}
-use Rattle.scan.specs.Rows.{widest}
+use Rattle.sheet_rows.specs.Rows.{rowsAt, widest}
 use Rattle.canvas.specs.Layers.{textLayer, thinLayer, bodyLayer, gridLayer, sheetOf}
 use Rattle.text_planes.specs.RegionTexts.{Regions, regionTextsOf}
 use Rattle.step.specs.PlaneStep.{planeOf}

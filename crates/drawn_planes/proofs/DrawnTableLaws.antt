@@ -24,8 +24,7 @@ use Rattle.frames.specs.Body.{bodyOf}
 use Rattle.outline.specs.Outline.{searchOf, namedBy, namedOf, tableOf, outlineBy, outlineOf}
 use Rattle.outline.specs.declared.Outline.{Outline}
 use Rattle.regions.specs.Slices.{Layer}
-use Rattle.scan.specs.Canvas.{rowsAt}
-use Rattle.scan.specs.Rows.{widest}
+use Rattle.sheet_rows.specs.Rows.{rowsAt, widest}
 use Rattle.scan.proofs.Answers.{fits-size}
 use Rattle.texts.specs.RegionText.{textOf}
 use Rattle.texts.proofs.TextsLaws.{texts-are}

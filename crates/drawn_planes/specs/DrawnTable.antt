@@ -9,7 +9,7 @@ use Rattle.model.specs.Refusals.{Reading}
 use Rattle.cells.specs.Held.{Held}
 use Rattle.cells.specs.Plane.{TextPlane, planeIn}
 use Rattle.cells.specs.Spans.{textsIn}
-use Rattle.scan.specs.Canvas.{rowsAt}
+use Rattle.sheet_rows.specs.Rows.{rowsAt}
 use Rattle.walks.specs.Frame.{frameOf}
 use Rattle.canvas.specs.Drawn.{Room}
 use Rattle.canvas.specs.Layers.{sheetOf}

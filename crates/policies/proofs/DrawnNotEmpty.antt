@@ -11,7 +11,7 @@ use Rattle.cells.specs.Plane.{TextPlane}
 use Rattle.outline.specs.declared.Outline.{Outline}
 use Rattle.rule_numbers.specs.Numbering.{first, counted}
 use Rattle.placement.specs.Placement.{placementOf}
-use Rattle.scan.specs.Canvas.{rowsAt}
+use Rattle.sheet_rows.specs.Rows.{rowsAt}
 use Rattle.walks.specs.Frame.{FrameFinder}
 use Rattle.canvas.specs.Layers.{sheetBy}
 use Rattle.policies.specs.DrawnPolicy.{drawnPlaneBy, nameBy, policyBy, walkedPolicy, drawnPolicy}

@@ -22,8 +22,8 @@ use Rattle.outline.specs.declared.Outline.{Outline}
 use Rattle.outline.proofs.EdgeLaws.{Edged, outline-edged}
 use Rattle.outline.proofs.InsideLaws.{Inside, outline-inside}
 use Rattle.regions.specs.Regions.{Finder, isCorner}
-use Rattle.scan.specs.Canvas.{rowsAt}
-use Rattle.scan.specs.Rows.{widest, blank, flat}
+use Rattle.sheet_rows.specs.Rows.{rowsAt, widest}
+use Rattle.scan.specs.Rows.{blank, flat}
 use Rattle.plane_rows.specs.Rows.{isAt}
 use Rattle.policies.proofs.PlaneHasRows.{plane-has-rows}
 use Rattle.policies.proofs.RowsHaveCells.{HasCells, rows-have-cells}

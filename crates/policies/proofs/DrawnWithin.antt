@@ -26,7 +26,7 @@ use Rattle.record.specs.Policy.{Text}
 use Rattle.outline.specs.declared.Outline.{Outline}
 use Rattle.regions.specs.Regions.{Finder, regionsOf}
 use Rattle.lookup.specs.Lookup.{regionOf}
-use Rattle.scan.specs.Rows.{widest}
+use Rattle.sheet_rows.specs.Rows.{widest}
 use Rattle.plane_rows.specs.Rows.{Row, Rows, isAt, outputLine, annotationLine, addLine, fitting, withCell}
 use Rattle.step.specs.PlaneStep.{cornersIn, addCell, rowBy, addRow, addFrames, addGridRow, noRows, rowsBy, planeBy}
 use Rattle.texts.specs.RegionText.{textOf, packed, textsOf}

@@ -23,8 +23,8 @@ use Rattle.outline.specs.Outline.{searchFrom, searchOf, namedBy, tableOf, outli
 use Rattle.outline.specs.declared.Outline.{Outline}
 use Rattle.regions.specs.Regions.{Finder, cornersOf, addRegion, regionsBy}
 use Rattle.lookup.specs.Lookup.{regionFrom, regionOf}
-use Rattle.scan.specs.Canvas.{rowsAt, fits, sizeOf}
-use Rattle.scan.specs.Rows.{widest}
+use Rattle.sheet_rows.specs.Rows.{rowsAt, widest}
+use Rattle.scan.specs.Canvas.{fits, sizeOf}
 use Rattle.plane_rows.specs.Rows.{Row, Rows, isAt, outputLine, annotationLine, addLine, fitting, withCell}
 use Rattle.step.specs.PlaneStep.{cornersIn, addCell, rowBy, addRow, addFrames, addGridRow, noRows, rowsBy, planeBy}
 use Rattle.texts.specs.RegionText.{textOf, packed, textsOf}

@@ -9,8 +9,8 @@ use Rattle.lists.proofs.AnswerLaws.{refused-ok}
 use Rattle.lists.proofs.Tests.{by-flag}
 use Rattle.outline.specs.Outline.{outlineBy}
 use Rattle.outline.specs.declared.Outline.{Outline}
-use Rattle.scan.specs.Canvas.{rowsAt, fits, sizeOf}
-use Rattle.scan.specs.Rows.{widest}
+use Rattle.sheet_rows.specs.Rows.{rowsAt, widest}
+use Rattle.scan.specs.Canvas.{fits, sizeOf}
 use Rattle.utf8.specs.Utf8.{checked}
 use Rattle.utf8.specs.declared.Checked.{Checked}
 use Rattle.utf8.specs.declared.Checked.the-variants.{Valid, Invalid}

@@ -10,7 +10,7 @@ use Rattle.record.specs.Policy.{Policy}
 use Rattle.record.specs.Record.{slotsIn, tableOf}
 use Rattle.record.specs.Slots.{slotLimit}
 use Rattle.lent.specs.LentPlane.{LentPlane, lentOf}
-use Rattle.scan.specs.Canvas.{rowsAt}
+use Rattle.sheet_rows.specs.Rows.{rowsAt}
 use Rattle.walks.specs.Frame.{frameOf}
 use Rattle.canvas.specs.Layers.{sheetBy}
 use Rattle.policies.specs.DrawnPolicy.{drawnPlaneBy, nameBy, policyBy, walkedPolicy}

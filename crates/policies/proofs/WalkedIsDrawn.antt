@@ -21,8 +21,8 @@ use Rattle.outline.specs.Outline.{searchOf, namedBy, tableOf, outlineBy}
 use Rattle.outline.specs.declared.Outline.{Outline}
 use Rattle.regions.specs.Regions.{regionsBy}
 use Rattle.regions.proofs.WalkedIsDrawn.{regions-below}
-use Rattle.scan.specs.Canvas.{rowsAt, sizeOf}
-use Rattle.scan.specs.Rows.{widest}
+use Rattle.sheet_rows.specs.Rows.{rowsAt, widest}
+use Rattle.scan.specs.Canvas.{sizeOf}
 use Rattle.step.specs.PlaneStep.{planeBy}
 use Rattle.step.proofs.WalkedIsDrawn.{plane-below}
 use Rattle.texts.specs.RegionText.{textOf, textsOf}

@@ -9,8 +9,7 @@ use Rattle.model.specs.Refusals.{Reading}
 use Rattle.cells.specs.Plane.{TextPlane}
 use Rattle.record.specs.Policy.{Text, Policy}
 use Rattle.outline.specs.declared.Outline.{Outline}
-use Rattle.scan.specs.Canvas.{rowsAt}
-use Rattle.scan.specs.Rows.{widest}
+use Rattle.sheet_rows.specs.Rows.{rowsAt, widest}
 use Rattle.texts.specs.RegionText.{textOf}
 use Rattle.walks.specs.Frame.{FrameFinder, frameOf}
 use Rattle.walks.specs.Kinds as kind

@@ -14,9 +14,10 @@ use Rattle.lists.proofs.Tests.{by-flag, both}
 use Rattle.model.specs.Limits.{canvasRows, canvasColumns, canvasSize}
 use Rattle.model.specs.declared.Refusal.the-variants.{CanvasTooLarge}
 use Rattle.utf8.specs.Utf8.{SameCheck}
-use Rattle.scan.specs.Canvas.{Size, fits, sizeOf, textIn, blanksIn, rowsAt, scannedIn, Ended, ValidIn}
-use Rattle.scan.specs.Found.{StartAt, Measured, rowsIn, Counted, Kept}
-use Rattle.scan.specs.Rows.{widest, blank, flat}
+use Rattle.sheet_rows.specs.Found.{StartAt, Measured, rowsIn, Counted, Kept}
+use Rattle.sheet_rows.specs.Rows.{rowsAt, widest}
+use Rattle.scan.specs.Canvas.{Size, fits, sizeOf, textIn, blanksIn, scannedIn, Ended, ValidIn}
+use Rattle.scan.specs.Rows.{blank, flat}
 use Rattle.scan.specs.declared.Scanned.{Scanned}
 use Rattle.scan.specs.declared.Scanned.the-variants.{Canvas, NotScanned}
 

@@ -10,9 +10,10 @@ use Rattle.unicode.specs.Lines.{lines, texts, after, lastOf}
 use Rattle.unicode.specs.Trim.{trimStart, trimEnd, trim}
 use Rattle.utf8.specs.Utf8.{more, by, decode, read, codes}
 use Rattle.unicode.specs.White.{among}
-use Rattle.scan.specs.Canvas.{sizeOf, blanksIn, rowsAt}
-use Rattle.scan.specs.Rows.{upTo, collect, widest, flat}
-use Rattle.scan.specs.Sheet.{linesThrough, linesTaken, behind, restOf}
+use Rattle.sheet_rows.specs.Rows.{rowsAt, upTo, collect, widest}
+use Rattle.sheet_rows.specs.Sheet.{linesThrough, linesTaken, behind, restOf}
+use Rattle.scan.specs.Canvas.{sizeOf, blanksIn}
+use Rattle.scan.specs.Rows.{flat}
 
 -- no bytes: a canvas of no rows and no columns
 pub no-bytes : sizeOf (rowsAt [] 0) ≡ ok (record { height = 0; width = 0 })

@@ -14,8 +14,9 @@ use Rattle.lists.proofs.PutLaws.{put-front}
 use Rattle.lists.proofs.Tests.{by-flag, true-false}
 use Rattle.model.specs.Box.{┌, ░}
 use Rattle.unicode.specs.Lines.{lines, texts}
+use Rattle.sheet_rows.specs.Rows.{begins, upTo, collect, rows, widest}
 use Rattle.scan.specs.Canvas.{fits, textIn, blanksIn}
-use Rattle.scan.specs.Rows.{begins, upTo, collect, rows, widest, fill, blank, flat}
+use Rattle.scan.specs.Rows.{fill, blank, flat}
 
 pub fill-length : (w : ℕ) (r : List ℕ) → length r ≤ w → length (fill w r) ≡ w
 fill-length w r h =

@@ -8,7 +8,8 @@ use lib.ListN.{length, take, drop, length-take}
 use Rattle.lists.specs.Put.{put}
 use Rattle.lists.proofs.Parts.{take-next, drop-next, room-next, take-done}
 use Rattle.lists.proofs.PutLaws.{put-nil, put-next}
-use Rattle.scan.specs.Rows.{widest, fill, flat}
+use Rattle.sheet_rows.specs.Rows.{widest}
+use Rattle.scan.specs.Rows.{fill, flat}
 use Rattle.scan.proofs.TextLayer.{fill-length, map-length}
 
 -- the layer of some rows, g of each, filled to a width

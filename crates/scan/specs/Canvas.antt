@@ -12,8 +12,9 @@ use Rattle.model.specs.Limits.{canvasRows, canvasColumns}
 use Rattle.model.specs.Refusals.{Reading}
 use Rattle.model.specs.declared.Refusal.the-variants.{CanvasTooLarge}
 use Rattle.utf8.specs.Utf8.{codes, SameCheck}
-use Rattle.scan.specs.Rows.{rows, widest, blank, flat}
-use Rattle.scan.specs.Sheet.{restOf}
+use Rattle.sheet_rows.specs.Rows.{widest}
+use Rattle.sheet_rows.specs.Sheet.{restOf}
+use Rattle.scan.specs.Rows.{blank, flat}
 use Rattle.scan.specs.declared.Scanned.{Scanned}
 use Rattle.scan.specs.declared.Scanned.the-variants.{Canvas, NotScanned}
 
@@ -38,10 +39,6 @@ textIn rs d = choose (fits rs) (put d 0 (flat (widest rs) rs)) d
 -- the BODY layer d afterwards: as the Rust starts it, a blank for each character of a row and ░ for each fill character
 unfoldable pub blanksIn : List (List ℕ) → List ℕ → List ℕ
 blanksIn rs d = choose (fits rs) (put d 0 (flat (widest rs) (map blank rs))) d
-
--- the rows of the sheet in the bytes from an index on
-abbrev pub rowsAt : List ℕ → ℕ → List (List ℕ)
-rowsAt s at = rows (codes (drop at s))
 
 -- an answer's size
 abbrev pub scannedIn : Scanned → Reading Size

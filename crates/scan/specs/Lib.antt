@@ -1,4 +1,2 @@
 pub mod Rows
 pub mod Canvas
-pub mod Sheet
-pub mod Found

@@ -2,111 +2,18 @@
 use model::Refusal;
 use model::box_drawing;
 use model::limits;
-use utf8::Decoded;
+use sheet_rows::LINE_NUMBERS;
 ghost use mathlib.Core.Path.{_≡_};
 ghost use mathlib.Core.List.{map};
-ghost use Prim.Native.Nat.{_+_, _*_, _≤_, _<_, max};
-ghost use lib.ListN.{length, set, replicate};
+ghost use Prim.Native.Nat.{_+_, _*_, _≤_};
+ghost use lib.ListN.{length, replicate};
 ghost use Rattle.lists.specs.Put.{put};
-ghost use Rattle.model.specs.Limits.{canvasRows, canvasSize};
-ghost use Rattle.unicode.specs.Lines.{codesAt, ValidTo};
-ghost use Rattle.utf8.specs.Utf8.{SameCheck};
-ghost use Rattle.scan.specs.Rows.{begins, widest, fill, blank, flat};
-ghost use Rattle.scan.specs.Canvas.{sizeOf, textIn, blanksIn, rowsAt, scannedIn, Ended, ValidIn};
-ghost use Rattle.scan.specs.Found.{StartAt, Measured, rowsIn, Counted, Kept};
-
-// Where a sheet starts, and up to where the bytes before it are valid.
-struct SheetStart {
-    at: usize,
-    valid: usize,
-}
-
-// The first line from `from` on whose text begins with ┌, or the end.
-fn sheet_start(s: &[u8], from: usize) -> SheetStart
-    requires { ⌜ from ≤ length (now s) ⌝ }
-    ensures start { λ r. ⌜ StartAt (now (s .entry)) from (r .at) ⌝ }
-    ensures valid { λ r. ⌜ ValidTo (now (s .entry)) from (r .at) (r .valid) ⌝ }
-{
-    let mut at = from;
-    let mut valid = from;
-    while at < s.len() {
-        let l = text_lines::line_head(s, at);
-        if l.first == box_drawing::LIGHT_DOWN_AND_RIGHT {
-            return SheetStart { at, valid };
-        }
-        at = l.next;
-        valid = l.valid;
-    }
-    SheetStart { at, valid }
-}
-
-fn larger(a: usize, b: usize) -> usize
-    ensures { λ r. ⌜ r ≡ max a b ⌝ }
-{
-    if a < b { b } else { a }
-}
-
-// Two numbers for each row of the largest canvas: where the row starts and how many code points it has.
-const LINE_NUMBERS: usize = 2 * limits::CANVAS_ROWS;
-
-// Keeps the two numbers of row n, if a canvas can have that row.
-fn keep_line(lines: &mut [usize], n: usize, from: usize, count: usize)
-    requires { ⌜ 2 * canvasRows ≤ length (now lines) ⌝ }
-    ensures { λ _. ⌜ (n < canvasRows → now (lines .exit) ≡ set (set (now (lines .entry)) (2 * n) from) (2 * n + 1) count) ⌝ }
-{
-    if limits::CANVAS_ROWS <= n {
-        return;
-    }
-    lines[2 * n] = from;
-    lines[2 * n + 1] = count;
-}
-
-// How many rows a sheet has, how many code points the longest, where the text behind it starts, and up to where the bytes are valid.
-struct Extent {
-    rows: usize,
-    columns: usize,
-    end: usize,
-    valid: usize,
-}
-
-// Measures the sheet whose first line starts at a place, and keeps where its rows stand. The bytes before it are valid up to `valid`.
-fn measure(s: &[u8], at: usize, valid: usize, lines: &mut [usize]) -> Extent
-    requires { ⌜ (at ≤ length (now s)) × (at < length (now s) → valid ≡ at) × (2 * canvasRows ≤ length (now lines)) ⌝ }
-    ensures measured { λ r. ⌜ Measured (now (s .entry)) at (r .rows) (r .columns) (r .end) ⌝ }
-    ensures kept { λ r. ⌜ (r .rows ≤ canvasRows → Kept (now (s .entry)) at (now (lines .exit)) (r .rows)) ⌝ }
-    ensures valid { λ r. ⌜ SameCheck (now (s .entry)) valid (r .valid) ⌝ }
-{
-    let mut p = at;
-    let mut v = valid;
-    let mut rows: usize = 0;
-    let mut columns: usize = 0;
-    while p < s.len() {
-        let l = text_lines::line_at(s, p);
-        let count = l.count;
-        let last = l.last;
-        p = l.next;
-        v = l.valid;
-        if 0 < count {
-            keep_line(lines, rows, l.from, count);
-            rows += 1;
-            columns = larger(columns, count);
-            if last == box_drawing::LIGHT_UP_AND_LEFT {
-                return Extent {
-                    rows,
-                    columns,
-                    end: p,
-                    valid: v,
-                };
-            }
-        }
-    }
-    Extent {
-        rows,
-        columns,
-        end: p,
-        valid: v,
-    }
-}
+ghost use Rattle.model.specs.Limits.{canvasSize};
+ghost use Rattle.unicode.specs.Lines.{codesAt};
+ghost use Rattle.sheet_rows.specs.Found.{rowsIn, Counted};
+ghost use Rattle.sheet_rows.specs.Rows.{rowsAt, widest};
+ghost use Rattle.scan.specs.Rows.{fill, blank, flat};
+ghost use Rattle.scan.specs.Canvas.{sizeOf, textIn, blanksIn, scannedIn, Ended, ValidIn};
 
 // The code points of a text, into out from `base` on.
 fn put_codes(s: &[u8], from: usize, count: usize, out: &mut [u32], base: usize)
@@ -192,9 +99,9 @@ pub fn scan(s: &[u8], from: usize, text: &mut [u32], body: &mut [u32]) -> Scanne
     ensures layer { λ _. ⌜ now (text .exit) ≡ textIn (rowsAt (now (s .entry)) from) (now (text .entry)) ⌝ }
     ensures body { λ _. ⌜ now (body .exit) ≡ blanksIn (rowsAt (now (s .entry)) from) (now (body .entry)) ⌝ }
 {
-    let start = sheet_start(s, from);
+    let start = sheet_rows::sheet_start(s, from);
     let mut lines = [0usize; LINE_NUMBERS];
-    let m = measure(s, start.at, start.valid, &mut lines);
+    let m = sheet_rows::measure(s, start.at, start.valid, &mut lines);
     let rows = m.rows;
     let columns = m.columns;
     let end = m.end;

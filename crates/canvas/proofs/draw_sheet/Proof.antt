@@ -3,7 +3,8 @@ use mathlib.Core.List.{List}
 use mathlib.Core.Path.{_≡_, sym, ap, _∙_, subst}
 use Prim.Native.Nat.{ℕ}
 use Rattle.outline.specs.Answers.{outlineIn}
-use Rattle.scan.specs.Canvas.{rowsAt, scannedIn, sizeOf, Ended, ValidIn}
+use Rattle.sheet_rows.specs.Rows.{rowsAt}
+use Rattle.scan.specs.Canvas.{scannedIn, sizeOf, Ended, ValidIn}
 use Rattle.scan.specs.declared.Scanned.{Scanned}
 use Rattle.scan.specs.declared.Scanned.the-variants.{Canvas}
 use Rattle.outline.specs.Outline.{outlineOf}

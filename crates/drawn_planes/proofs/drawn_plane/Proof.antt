@@ -7,7 +7,7 @@ use Rattle.lists.specs.Answer.{ok}
 use Rattle.model.specs.Limits.{textBytes}
 use Rattle.cells.specs.Held.{Held}
 use Rattle.outline.specs.declared.Outline.{Outline}
-use Rattle.scan.specs.Canvas.{rowsAt}
+use Rattle.sheet_rows.specs.Rows.{rowsAt}
 use Rattle.canvas.specs.Drawn.{outlineIn, LayersIn, Shown, Room}
 use Rattle.text_planes.specs.DrawnPlane.{planeRead, PlaneHeld}
 use Rattle.canvas.specs.Layers.{sheetOf}

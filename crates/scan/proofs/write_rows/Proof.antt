@@ -6,7 +6,7 @@ use native.Mathlib.Omega.{arith}
 use lib.ListN.{drop}
 use borrow.Author.Needs.{needs}
 use Rattle.lists.proofs.RunLaws.{length-run, drop-build, drop-build-end}
-use Rattle.scan.specs.Found.{rowIn, rowsIn}
+use Rattle.sheet_rows.specs.Found.{rowIn, rowsIn}
 use Rattle.scan.specs.Rows.{blank}
 use Rattle.scan.proofs.TextLayer.{blank-length}
 use Rattle.scan.proofs.Writing.{Writing, text-layer, writing-start, writing-more, writing-end, writing-room}

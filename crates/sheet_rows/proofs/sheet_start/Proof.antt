@@ -1,12 +1,12 @@
--- `scan::sheet_start` meets its contract.
+-- `sheet_rows::sheet_start` meets its contract.
 use Prim.Native.Nat.{_-_}
 use native.Mathlib.Omega.{arith}
 use lib.ListN.{length}
 use borrow.Author.Needs.{needs}
 use Rattle.unicode.specs.Lines.{ValidTo}
-use Rattle.scan.proofs.Measuring.{Seeking, seeking-start, seeking-more, seeking-found, seeking-end, valid-start, valid-more}
-use Rattle.scan.proofs.sheet_start.Statement.{statement}
-use Rattle.scan.proofs.sheet_start.Tie as tie
+use Rattle.sheet_rows.proofs.Measuring.{Seeking, seeking-start, seeking-more, seeking-found, seeking-end, valid-start, valid-more}
+use Rattle.sheet_rows.proofs.sheet_start.Statement.{statement}
+use Rattle.sheet_rows.proofs.sheet_start.Tie as tie
 
 abbrev Inv-loop : tie.InvT-loop
 Inv-loop s from at₀ valid₀ at valid = Seeking s from at × ValidTo s from at valid

@@ -1,4 +1,4 @@
--- What the inner functions of the crate answer on the way: no caller needs these.
+-- What is found out about the sheet in some bytes: where it starts, its size, and where its rows stand.
 use mathlib.Core.List.{List}
 use mathlib.Core.Path.{_≡_}
 use Prim.Native.Nat.{ℕ, _+_, _*_, _≤_, _<_}
@@ -6,9 +6,8 @@ use lib.ListN.{length, getD, drop}
 use Rattle.lists.specs.Run.{build}
 use Rattle.unicode.specs.Lines.{lines, texts, codesAt}
 use Rattle.utf8.specs.Utf8.{codes}
-use Rattle.scan.specs.Canvas.{rowsAt}
-use Rattle.scan.specs.Rows.{upTo, widest}
-use Rattle.scan.specs.Sheet.{linesThrough, behind, restOf}
+use Rattle.sheet_rows.specs.Rows.{rowsAt, upTo, widest}
+use Rattle.sheet_rows.specs.Sheet.{linesThrough, behind, restOf}
 
 -- the trimmed lines from a place of the bytes on, without blank ones
 abbrev pub textsAt : List ℕ → ℕ → List (List ℕ)

@@ -12,8 +12,8 @@ use Rattle.unicode.specs.Lines.{lines, texts, kept, lastOf, lineText, codesAt, 
 use Rattle.utf8.specs.Utf8.{codes}
 use Rattle.unicode.proofs.LineLaws.{texts-split}
 use Rattle.utf8.proofs.Utf8Laws.{codes-end}
-use Rattle.scan.specs.Found.{textsAt}
-use Rattle.scan.specs.Rows.{begins, upTo, collect}
+use Rattle.sheet_rows.specs.Found.{textsAt}
+use Rattle.sheet_rows.specs.Rows.{begins, upTo, collect}
 
 -- one text more in front, by what it is
 collect-off : (t : List ℕ) (ts : List (List ℕ)) → begins t ≡ false → collect (kept t ts) ≡ collect ts

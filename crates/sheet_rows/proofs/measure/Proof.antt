@@ -1,14 +1,14 @@
--- `scan::measure` meets its contract.
+-- `sheet_rows::measure` meets its contract.
 use mathlib.Core.Path.{refl}
 use Prim.Native.Nat.{_-_}
 use native.Mathlib.Omega.{arith}
 use lib.ListN.{length}
 use borrow.Author.Needs.{needs}
 use Rattle.unicode.specs.Lines.{ValidTo}
-use Rattle.scan.proofs.Measuring.{Measuring, measuring-start, measuring-none, measuring-more, measuring-last, measuring-end, valid-more}
-use Rattle.scan.proofs.Keeping.{Keeping, keeping-start, keeping-none, keeping-more, keeping-last, keeping-end}
-use Rattle.scan.proofs.measure.Statement.{statement}
-use Rattle.scan.proofs.measure.Tie as tie
+use Rattle.sheet_rows.proofs.Measuring.{Measuring, measuring-start, measuring-none, measuring-more, measuring-last, measuring-end, valid-more}
+use Rattle.sheet_rows.proofs.Keeping.{Keeping, keeping-start, keeping-none, keeping-more, keeping-last, keeping-end}
+use Rattle.sheet_rows.proofs.measure.Statement.{statement}
+use Rattle.sheet_rows.proofs.measure.Tie as tie
 
 abbrev Inv-loop : tie.InvT-loop
 Inv-loop s at valid lines₀ p₀ v₀ rows₀ columns₀ lines p v rows columns = Measuring s at p rows columns × (Keeping s at p rows lines₀ lines × ValidTo s valid p v)

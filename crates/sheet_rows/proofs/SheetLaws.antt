@@ -12,9 +12,9 @@ use Rattle.unicode.specs.Trim.{trim}
 use Rattle.utf8.specs.Utf8.{codes}
 use Rattle.unicode.proofs.LineLaws.{lines-cons}
 use Rattle.utf8.proofs.Utf8Laws.{codes-end}
-use Rattle.scan.specs.Found.{restAt}
-use Rattle.scan.specs.Rows.{begins, ends}
-use Rattle.scan.specs.Sheet.{linesThrough, linesTaken, behind, restOf}
+use Rattle.sheet_rows.specs.Found.{restAt}
+use Rattle.sheet_rows.specs.Rows.{begins, ends}
+use Rattle.sheet_rows.specs.Sheet.{linesThrough, linesTaken, behind, restOf}
 
 -- the text behind the sheet whose first line is the text's first
 abbrev sheetRest : List ℕ → List ℕ

@@ -1,9 +1,9 @@
--- `scan::keep_line` meets its contract.
+-- `sheet_rows::keep_line` meets its contract.
 use native.Mathlib.Omega.{arith}
 use borrow.Author.Needs.{needs}
 use lib.ListN.{length-set}
-use Rattle.scan.proofs.keep_line.Statement.{statement}
-use Rattle.scan.proofs.keep_line.Tie as tie
+use Rattle.sheet_rows.proofs.keep_line.Statement.{statement}
+use Rattle.sheet_rows.proofs.keep_line.Tie as tie
 
 returns : tie.Need-returns
 returns c = λ l. absurd (omega (arith, c .if1 .taken))

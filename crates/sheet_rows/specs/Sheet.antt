@@ -4,7 +4,7 @@ use Prim.Native.Nat.{ℕ, zero, suc}
 use Rattle.lists.specs.Choose.{choose}
 use Rattle.unicode.specs.Lines.{lines, after}
 use Rattle.unicode.specs.Trim.{trim}
-use Rattle.scan.specs.Rows.{begins, ends}
+use Rattle.sheet_rows.specs.Rows.{begins, ends}
 
 -- the lines up to the first that ends with ┘, and that one
 unfoldable pub linesThrough : List (List ℕ) → ℕ

@@ -11,9 +11,9 @@ use Rattle.lists.proofs.RunLaws.{build-same, build-next}
 use Rattle.model.specs.Box.{┘}
 use Rattle.model.specs.Limits.{canvasRows}
 use Rattle.unicode.specs.Lines.{codesAt, LineAt}
-use Rattle.scan.specs.Found.{textsAt, rowIn, rowsIn, Counted, Kept}
-use Rattle.scan.specs.Rows.{upTo}
-use Rattle.scan.proofs.RowsLaws.{line-counted, rows-none, rows-last, rows-more, rows-end}
+use Rattle.sheet_rows.specs.Found.{textsAt, rowIn, rowsIn, Counted, Kept}
+use Rattle.sheet_rows.specs.Rows.{upTo}
+use Rattle.sheet_rows.proofs.RowsLaws.{line-counted, rows-none, rows-last, rows-more, rows-end}
 
 -- o is d with the two numbers of row n
 module _ (s d o : List ℕ) (n from count : ℕ) (fits : 2 * n + 1 < length d) (same : o ≡ set (set d (2 * n) from) (2 * n + 1) count) where

@@ -9,12 +9,11 @@ use borrow.Author.Tests.{eq-eqb, ne-eqb}
 use Rattle.model.specs.Box.{┌, ┘}
 use Rattle.unicode.specs.Lines.{lineText, LineAt, HeadAt, ValidTo}
 use Rattle.utf8.specs.Utf8.{codes}
-use Rattle.scan.specs.Canvas.{rowsAt}
-use Rattle.scan.specs.Found.{textsAt, restAt, StartAt, Measured}
-use Rattle.scan.specs.Rows.{begins, upTo, collect, widest}
-use Rattle.scan.specs.Sheet.{restOf}
-use Rattle.scan.proofs.RowsLaws.{line-counted, collect-next, collect-found, collect-end, rows-none, rows-last, rows-more, rows-end}
-use Rattle.scan.proofs.SheetLaws.{rest-next, rest-found, rest-none, rest-more, rest-last, rest-end, blank-not-last}
+use Rattle.sheet_rows.specs.Found.{textsAt, restAt, StartAt, Measured}
+use Rattle.sheet_rows.specs.Rows.{begins, upTo, collect, rowsAt, widest}
+use Rattle.sheet_rows.specs.Sheet.{restOf}
+use Rattle.sheet_rows.proofs.RowsLaws.{line-counted, collect-next, collect-found, collect-end, rows-none, rows-last, rows-more, rows-end}
+use Rattle.sheet_rows.proofs.SheetLaws.{rest-next, rest-found, rest-none, rest-more, rest-last, rest-end, blank-not-last}
 
 -- no line from `from` up to `at` begins a sheet
 pub record Seeking (s : List ℕ) (from at : ℕ) : Type 0 where
