@@ -1,4 +1,5 @@
--- A row of cells and the rows of a plane so far: what each frame and each line adds.
+-- A row of cells and the rows of a plane so far, and what each frame and each line adds: document 01, "Regions and plane", and `plane` of
+-- the Rust's canvas.
 use mathlib.Core.Bool.{Bool, false}
 use mathlib.Core.List.{List, [], _∷_, _++_}
 use Prim.Native.Nat.{ℕ}

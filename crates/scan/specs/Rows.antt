@@ -1,4 +1,4 @@
--- The rows of a sheet as a layer, each filled to one width.
+-- The rows of a sheet as a layer, each filled to one width: document 01, "Canvas".
 use mathlib.Core.List.{List, [], _∷_, _++_}
 use Prim.Native.Nat.{ℕ, _-_}
 use lib.ListN.{length, replicate}

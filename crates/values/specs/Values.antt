@@ -1,4 +1,5 @@
--- The values of a text: its allowed values and its default, and what is measured of them.
+-- The values of a text, allowed values and default, and what is measured of them: document 01, "The value split", and
+-- `get_allowed_and_default_output_values` of the Rust.
 use mathlib.Core.List.{List, [], _∷_, _++_}
 use mathlib.Core.Option.{Option, none, some}
 use mathlib.Core.Path.{_≡_}
