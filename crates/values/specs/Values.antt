@@ -1,4 +1,4 @@
--- The values of a text, allowed values and default, and what is measured of them: document 01, "The value split", and
+-- The values of a text, allowed values and default, and what is measured of them: the value split of document 01,
 -- `get_allowed_and_default_output_values` of the Rust.
 use mathlib.Core.List.{List, [], _∷_, _++_}
 use mathlib.Core.Option.{Option, none, some}
