@@ -12,8 +12,6 @@ use Rattle.model.specs.declared.Orientation.{Orientation}
 use Rattle.model.specs.declared.Orientation.the-variants.{RulesAsRows, RulesAsColumns}
 use Rattle.model.specs.declared.FoundPolicy.{FoundPolicy}
 use Rattle.model.specs.declared.FoundPolicy.the-variants.{Policy, NoPolicy}
-use Rattle.model.specs.declared.HitPolicyPlacement.{HitPolicyPlacement}
-use Rattle.model.specs.declared.HitPolicyPlacement.the-variants.{TopLeft, BottomLeft, NotPresent}
 
 -- the eleven policies, in the order of document 01: U A P F R O C C+ C# C< C>
 abbrev pub policies : List HitPolicy
@@ -74,12 +72,3 @@ policyOf s = byLetters policies s
 abbrev pub policyFound : FoundPolicy → Option HitPolicy
 policyFound (Policy h) = some h
 policyFound NoPolicy = none
-
--- the placed policy, where it stands as the orientation wants it: TopLeft for rows, BottomLeft for columns
-abbrev pub placedPolicy : HitPolicyPlacement → Orientation → Option HitPolicy
-placedPolicy (TopLeft h) RulesAsRows = some h
-placedPolicy (TopLeft h) RulesAsColumns = none
-placedPolicy (BottomLeft h) RulesAsRows = none
-placedPolicy (BottomLeft h) RulesAsColumns = some h
-placedPolicy NotPresent RulesAsRows = none
-placedPolicy NotPresent RulesAsColumns = none

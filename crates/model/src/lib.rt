@@ -4,7 +4,7 @@ ghost use mathlib.Core.List.{[], _∷_};
 ghost use Prim.Native.Nat.{_+_, _-_, _<_, _^_};
 ghost use lib.ListN.{drop};
 ghost use Rattle.model.specs.Geometry.{containsOf};
-ghost use Rattle.model.specs.Policies.{policyNumber, orientationNumber, policyOf, policyFound, placedPolicy};
+ghost use Rattle.model.specs.Policies.{policyNumber, orientationNumber, policyOf, policyFound};
 ghost use Rattle.model.specs.Cells.{kindOf, regionOf, regionFound, sameKind, cellNumber, cellOf, turnedCell, Small};
 ghost use Rattle.model.specs.RuleNumbers.{numberOf, numberFound, unsigned};
 
@@ -270,24 +270,6 @@ pub fn hit_policy(s: &[u8]) -> FoundPolicy
         return FoundPolicy::NoPolicy;
     }
     collect_policy(s[1])
-}
-
-// The placed policy, where it stands as the orientation wants it.
-pub fn placed_policy(p: HitPolicyPlacement, o: Orientation) -> FoundPolicy
-    ensures { λ r. ⌜ policyFound r ≡ placedPolicy p o ⌝ }
-{
-    match o {
-        Orientation::RulesAsRows => match p {
-            HitPolicyPlacement::TopLeft(h) => FoundPolicy::Policy(h),
-            HitPolicyPlacement::BottomLeft(_) => FoundPolicy::NoPolicy,
-            HitPolicyPlacement::NotPresent => FoundPolicy::NoPolicy,
-        },
-        Orientation::RulesAsColumns => match p {
-            HitPolicyPlacement::TopLeft(_) => FoundPolicy::NoPolicy,
-            HitPolicyPlacement::BottomLeft(h) => FoundPolicy::Policy(h),
-            HitPolicyPlacement::NotPresent => FoundPolicy::NoPolicy,
-        },
-    }
 }
 
 fn wide(x: u8) -> u64

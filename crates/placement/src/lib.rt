@@ -76,7 +76,7 @@ fn bottom_left(plane: &[u32], n: usize, bytes: &[u8], spans: &[u32], count: usiz
 }
 
 // Where the hit policy stands.
-pub fn hit_policy_placement(
+fn hit_policy_placement(
     plane: &[u32],
     n: usize,
     bytes: &[u8],

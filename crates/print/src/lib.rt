@@ -36,7 +36,7 @@ fn put_byte(out: &mut [u8], at: usize, b: u8) -> usize
 }
 
 // A text as its count of bytes and the bytes.
-pub fn put_listed(out: &mut [u8], at: usize, text: &[u8]) -> usize
+fn put_listed(out: &mut [u8], at: usize, text: &[u8]) -> usize
     requires { ⌜ at + 50 + 4 * length (now text) ≤ length (now out) ⌝ }
     ensures { λ r. ⌜ Written (now (out .entry)) (now (out .exit)) at (listed (now (text .entry))) (20 + 4 * length (now (text .entry))) r ⌝ }
 {

@@ -26,7 +26,7 @@ pub enum Counted {
 }
 
 // Whether a frame starts at a character. The four corners differ in bits 4 and 5 alone.
-pub fn is_corner(code: u32) -> bool
+fn is_corner(code: u32) -> bool
     ensures { λ r. ⌜ r ≡ isCorner code ⌝ }
 {
     code & 0xFFFF_FFCF == LIGHT_DOWN_AND_RIGHT

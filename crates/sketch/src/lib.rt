@@ -24,14 +24,7 @@ fn put_row(out: &mut [u8], at: usize, layer: &[u32], w: usize, h: usize, y: usiz
 }
 
 // The rows of a layer behind its title.
-pub fn put_layer(
-    out: &mut [u8],
-    at: usize,
-    title: &[u8],
-    layer: &[u32],
-    w: usize,
-    h: usize,
-) -> usize
+fn put_layer(out: &mut [u8], at: usize, title: &[u8], layer: &[u32], w: usize, h: usize) -> usize
     requires { ⌜ (at + length (now title) + rowBytes * h ≤ length (now out)) × Layer w h (now layer) ⌝ }
     ensures { λ r. ⌜ Written (now (out .entry)) (now (out .exit)) at (layerLines (now (title .entry)) (canvas w h (now (layer .entry))) w h) (length (now (title .entry)) + rowBytes * h) r ⌝ }
 {

@@ -96,7 +96,7 @@ fn codes_end(s: &[u32], from: usize) -> usize
 }
 
 // The part of some code points that is left without the white space at the ends.
-pub fn trim_codes(s: &[u32]) -> Part
+fn trim_codes(s: &[u32]) -> Part
     ensures { λ r. ⌜ PartIn (now (s .entry)) 0 (length (now (s .entry))) (trimStart (now (s .entry))) (trim (now (s .entry))) (r .from) (r .to) ⌝ }
 {
     let from = codes_start(s);
@@ -143,7 +143,7 @@ fn utf8_start(s: &[u8]) -> usize
 }
 
 // The part of a text in UTF-8 that is left without the white space at its ends; the whole of it where it is ill-formed.
-pub fn trim_utf8(s: &[u8]) -> Part
+fn trim_utf8(s: &[u8]) -> Part
     ensures { λ r. ⌜ PartIn (now (s .entry)) 0 (length (now (s .entry))) (trimStartUtf8 (now (s .entry))) (trimUtf8 (now (s .entry))) (r .from) (r .to) ⌝ }
 {
     let from = utf8_start(s);
