@@ -46,19 +46,17 @@ size-next bytes spans k = rw (build-next (textAt bytes spans) k) (length-snoc (t
 size-grows : (bytes spans : List ℕ) (k n : ℕ) → k ≤ n → size bytes spans k ≤ size bytes spans n
 size-grows bytes spans = grows (textAt bytes spans) (λ ts. length (packed ts)) (λ ts x. omega (arith, length-snoc ts x))
 
-length-text : (bytes spans : List ℕ) (k : ℕ) → offsetAt spans k + lengthAt spans k ≤ length bytes → length (textAt bytes spans k) ≡ lengthAt spans k
+pub length-text : (bytes spans : List ℕ) (k : ℕ) → offsetAt spans k + lengthAt spans k ≤ length bytes → length (textAt bytes spans k) ≡ lengthAt spans k
 length-text bytes spans k h =
     length-take-le (lengthAt spans k) (drop (offsetAt spans k) bytes) (omega (arith, length-drop (offsetAt spans k) bytes))
 
 -- a text and a line feed
-pub written-text : (bytes spans : List ℕ) (k : ℕ) {d o e : List ℕ} {at a r : ℕ} → offsetAt spans k + lengthAt spans k ≤ length bytes
-    → (let t = take (offsetAt spans k + lengthAt spans k - offsetAt spans k) (drop (offsetAt spans k) bytes) in Written d o at t (length t) a)
-    → Written o e a (lineFeed ∷ []) 1 r → at + lengthAt spans k ≤ length d
+pub written-text : (bytes spans : List ℕ) (k : ℕ) {t d o e : List ℕ} {at a r : ℕ} → offsetAt spans k + lengthAt spans k ≤ length bytes → t ≡ textAt bytes spans k
+    → Written d o at t (length t) a → Written o e a (lineFeed ∷ []) 1 r → at + lengthAt spans k ≤ length d
     → Written d e at (textAt bytes spans k ++ (lineFeed ∷ [])) (lengthAt spans k + 1) r
-written-text bytes spans k {d} {o} {e} {at} {a} {r} h u v l =
-    let z : offsetAt spans k + lengthAt spans k - offsetAt spans k ≡ lengthAt spans k = omega arith in
+written-text bytes spans k {t} {d} {o} {e} {at} {a} {r} h q u v l =
     let s = length-text bytes spans k h in
-    let w : Written d o at (textAt bytes spans k) (length (textAt bytes spans k)) a = rw z at u in
+    let w : Written d o at (textAt bytes spans k) (length (textAt bytes spans k)) a = rw q at u in
     written-within (written-then w v (omega (arith, w .short))) (omega arith)
 
 -- a text is no longer than all texts together

@@ -83,9 +83,7 @@ fn put_text(out: &mut [u8], at: usize, bytes: &[u8], spans: &[u32], k: usize) ->
     requires { ⌜ (at + lengthAt (now spans) k + 1 ≤ length (now out)) × (k * 2 + 2 ≤ length (now spans)) × (offsetAt (now spans) k + lengthAt (now spans) k ≤ length (now bytes)) ⌝ }
     ensures { λ r. ⌜ Written (now (out .entry)) (now (out .exit)) at (textAt (now (bytes .entry)) (now (spans .entry)) k ++ (lineFeed ∷ [])) (lengthAt (now (spans .entry)) k + 1) r ⌝ }
 {
-    let from = spans[k * 2] as usize;
-    let to = from + spans[k * 2 + 1] as usize;
-    let a = print::put_word(out, at, &bytes[from..to]);
+    let a = print::put_word(out, at, cells::text_at(bytes, spans, k));
     print::put_word(out, a, b"\n")
 }
 
