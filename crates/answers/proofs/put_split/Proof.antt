@@ -1,5 +1,5 @@
 -- `answers::put_split` meets its contract.
-use mathlib.Core.Path.{ap, sym}
+use mathlib.Core.Path.{ap, sym, refl}
 use Rattle.utils.specs.Split.{answered}
 use Rattle.answers.specs.SplitLines.{printed}
 use Rattle.print.proofs.WrittenLaws.{written-as, written-within}
@@ -13,7 +13,7 @@ enum-told : tie.Need-enum-told
 enum-told c = search needs
 
 slice-aggregate-put-word : tie.Need-slice-aggregate-put-word
-slice-aggregate-put-word c = search needs
+slice-aggregate-put-word c = refl
 
 put-word-requires : tie.Need-put-word-requires
 put-word-requires c κs = search needs

@@ -1,4 +1,5 @@
 -- `drawings::put_drawing` meets its contract.
+use mathlib.Core.Path.{refl}
 use Rattle.print.proofs.WrittenLaws.{written-then, written-as, written-within}
 use Rattle.drawings.proofs.DrawingLaws.{drawn-layer, drawn-lines, not-drawn}
 use native.Mathlib.Omega.{arith}
@@ -7,16 +8,16 @@ use Rattle.drawings.proofs.put_drawing.Statement.{statement}
 use Rattle.drawings.proofs.put_drawing.Tie as tie
 
 slice-aggregate-draw-sheet : tie.Need-slice-aggregate-draw-sheet
-slice-aggregate-draw-sheet c = search needs
+slice-aggregate-draw-sheet c = refl
 
 slice-aggregate-draw-sheet-2 : tie.Need-slice-aggregate-draw-sheet-2
-slice-aggregate-draw-sheet-2 c = search needs
+slice-aggregate-draw-sheet-2 c = refl
 
 slice-aggregate-draw-sheet-3 : tie.Need-slice-aggregate-draw-sheet-3
-slice-aggregate-draw-sheet-3 c = search needs
+slice-aggregate-draw-sheet-3 c = refl
 
 slice-aggregate-draw-sheet-4 : tie.Need-slice-aggregate-draw-sheet-4
-slice-aggregate-draw-sheet-4 c = search needs
+slice-aggregate-draw-sheet-4 c = refl
 
 draw-sheet-requires : tie.Need-draw-sheet-requires
 draw-sheet-requires c κs = search needs

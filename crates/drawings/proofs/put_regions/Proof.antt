@@ -1,4 +1,5 @@
 -- `drawings::put_regions` meets its contract.
+use mathlib.Core.Path.{refl}
 use Rattle.print.proofs.WrittenLaws.{written-then, written-as, written-within}
 use Rattle.drawings.proofs.DrawingLaws.{read-lines, not-read, read-texts, read-few, read-regions}
 use native.Mathlib.Omega.{arith}
@@ -7,13 +8,13 @@ use Rattle.drawings.proofs.put_regions.Statement.{statement}
 use Rattle.drawings.proofs.put_regions.Tie as tie
 
 slice-aggregate-read-regions : tie.Need-slice-aggregate-read-regions
-slice-aggregate-read-regions c = search needs
+slice-aggregate-read-regions c = refl
 
 slice-aggregate-read-regions-2 : tie.Need-slice-aggregate-read-regions-2
-slice-aggregate-read-regions-2 c = search needs
+slice-aggregate-read-regions-2 c = refl
 
 slice-aggregate-read-regions-3 : tie.Need-slice-aggregate-read-regions-3
-slice-aggregate-read-regions-3 c = search needs
+slice-aggregate-read-regions-3 c = refl
 
 read-regions-requires : tie.Need-read-regions-requires
 read-regions-requires c κs = search needs

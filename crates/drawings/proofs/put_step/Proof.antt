@@ -1,4 +1,5 @@
 -- `drawings::put_step` meets its contract.
+use mathlib.Core.Path.{refl}
 use Rattle.print.proofs.WrittenLaws.{written-as, written-within}
 use Rattle.drawings.proofs.DrawingLaws.{made-lines, not-made, made-fits, step-room}
 use native.Mathlib.Omega.{arith}
@@ -7,10 +8,10 @@ use Rattle.drawings.proofs.put_step.Statement.{statement}
 use Rattle.drawings.proofs.put_step.Tie as tie
 
 slice-aggregate-make-plane : tie.Need-slice-aggregate-make-plane
-slice-aggregate-make-plane c = search needs
+slice-aggregate-make-plane c = refl
 
 slice-aggregate-make-plane-2 : tie.Need-slice-aggregate-make-plane-2
-slice-aggregate-make-plane-2 c = search needs
+slice-aggregate-make-plane-2 c = refl
 
 make-plane-requires : tie.Need-make-plane-requires
 make-plane-requires c κs =

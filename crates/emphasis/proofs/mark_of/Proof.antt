@@ -1,5 +1,5 @@
 -- `emphasis::mark_of` meets its contract.
-use mathlib.Core.Path.{_≡_, _∙_}
+use mathlib.Core.Path.{_≡_, _∙_, refl}
 use Prim.Native.Nat.{ℕ}
 use native.Mathlib.Omega.{arith}
 use borrow.Author.Needs.{needs}
@@ -44,13 +44,13 @@ left5 : (c : tie.Else5) → Left (start5 c) 5
 left5 c = left4 (c .before .before .before) ∙ mark-miss _ _ _ (c .before .is-marked5 .ensures) (c .if5 .left)
 
 slice-aggregate-is-marked : tie.Need-slice-aggregate-is-marked
-slice-aggregate-is-marked c = search needs
+slice-aggregate-is-marked c = refl
 
 is-marked-requires : tie.Need-is-marked-requires
 is-marked-requires c κs = search needs
 
 slice-aggregate-bare : tie.Need-slice-aggregate-bare
-slice-aggregate-bare c = search needs
+slice-aggregate-bare c = refl
 
 bare-requires : tie.Need-bare-requires
 bare-requires c κs = search needs
@@ -59,13 +59,13 @@ returns : tie.Need-returns
 returns c = mark-by (mark-hit _ _ _ (c .before .before .before .is-marked .ensures) (c .before .before .if1 .taken)) (c .bare .ensures)
 
 slice-aggregate-is-marked-2 : tie.Need-slice-aggregate-is-marked-2
-slice-aggregate-is-marked-2 c = search needs
+slice-aggregate-is-marked-2 c = refl
 
 is-marked-requires-2 : tie.Need-is-marked-requires-2
 is-marked-requires-2 c κs = search needs
 
 slice-aggregate-bare-2 : tie.Need-slice-aggregate-bare-2
-slice-aggregate-bare-2 c = search needs
+slice-aggregate-bare-2 c = refl
 
 bare-requires-2 : tie.Need-bare-requires-2
 bare-requires-2 c κs = search needs
@@ -74,13 +74,13 @@ returns-2 : tie.Need-returns-2
 returns-2 c = mark-by (left1 (c .before .before .before .before .before) ∙ mark-hit _ _ _ (c .before .before .before .is-marked2 .ensures) (c .before .before .if2 .taken)) (c .bare2 .ensures)
 
 slice-aggregate-is-marked-3 : tie.Need-slice-aggregate-is-marked-3
-slice-aggregate-is-marked-3 c = search needs
+slice-aggregate-is-marked-3 c = refl
 
 is-marked-requires-3 : tie.Need-is-marked-requires-3
 is-marked-requires-3 c κs = search needs
 
 slice-aggregate-bare-3 : tie.Need-slice-aggregate-bare-3
-slice-aggregate-bare-3 c = search needs
+slice-aggregate-bare-3 c = refl
 
 bare-requires-3 : tie.Need-bare-requires-3
 bare-requires-3 c κs = search needs
@@ -89,13 +89,13 @@ returns-3 : tie.Need-returns-3
 returns-3 c = mark-by (left2 (c .before .before .before .before .before) ∙ mark-hit _ _ _ (c .before .before .before .is-marked3 .ensures) (c .before .before .if3 .taken)) (c .bare3 .ensures)
 
 slice-aggregate-is-marked-4 : tie.Need-slice-aggregate-is-marked-4
-slice-aggregate-is-marked-4 c = search needs
+slice-aggregate-is-marked-4 c = refl
 
 is-marked-requires-4 : tie.Need-is-marked-requires-4
 is-marked-requires-4 c κs = search needs
 
 slice-aggregate-bare-4 : tie.Need-slice-aggregate-bare-4
-slice-aggregate-bare-4 c = search needs
+slice-aggregate-bare-4 c = refl
 
 bare-requires-4 : tie.Need-bare-requires-4
 bare-requires-4 c κs = search needs
@@ -104,13 +104,13 @@ returns-4 : tie.Need-returns-4
 returns-4 c = mark-by (left3 (c .before .before .before .before .before) ∙ mark-hit _ _ _ (c .before .before .before .is-marked4 .ensures) (c .before .before .if4 .taken)) (c .bare4 .ensures)
 
 slice-aggregate-is-marked-5 : tie.Need-slice-aggregate-is-marked-5
-slice-aggregate-is-marked-5 c = search needs
+slice-aggregate-is-marked-5 c = refl
 
 is-marked-requires-5 : tie.Need-is-marked-requires-5
 is-marked-requires-5 c κs = search needs
 
 slice-aggregate-bare-5 : tie.Need-slice-aggregate-bare-5
-slice-aggregate-bare-5 c = search needs
+slice-aggregate-bare-5 c = refl
 
 bare-requires-5 : tie.Need-bare-requires-5
 bare-requires-5 c κs = search needs

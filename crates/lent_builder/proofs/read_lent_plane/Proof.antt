@@ -1,6 +1,6 @@
 -- `lent_builder::read_lent_plane` meets its contract.
 use mathlib.Core.List.{List, [], _∷_}
-use mathlib.Core.Path.{sym, ap, _∙_}
+use mathlib.Core.Path.{sym, ap, _∙_, refl}
 use Prim.Native.Nat.{ℕ}
 use Rattle.lent.specs.LentPlane.{LentPlane}
 use Rattle.policies.specs.LentPolicy.{lentPolicy}
@@ -20,10 +20,10 @@ lent s =
     record { rows = a .rows .now; kinds = a .kinds .now; regions = a .regions .now; offsets = a .offsets .now; sizes = a .sizes .now; bytes = a .bytes .now }
 
 slice-aggregate-work-slices : tie.Need-slice-aggregate-work-slices
-slice-aggregate-work-slices c = search needs
+slice-aggregate-work-slices c = refl
 
 slice-aggregate-work-slices-2 : tie.Need-slice-aggregate-work-slices-2
-slice-aggregate-work-slices-2 c = search needs
+slice-aggregate-work-slices-2 c = refl
 
 work-slices-requires : tie.Need-work-slices-requires
 work-slices-requires c κs = search needs

@@ -1,4 +1,5 @@
 -- `listing::put_counts` meets its contract.
+use mathlib.Core.Path.{refl}
 use Rattle.print.proofs.WrittenLaws.{written-within}
 use Rattle.listing.specs.RecordLines.{countLines}
 use Rattle.listing.proofs.LineLaws.{written-four}
@@ -8,25 +9,25 @@ use Rattle.listing.proofs.put_counts.Statement.{statement}
 use Rattle.listing.proofs.put_counts.Tie as tie
 
 slice-aggregate-put-line : tie.Need-slice-aggregate-put-line
-slice-aggregate-put-line c = search needs
+slice-aggregate-put-line c = refl
 
 put-line-requires : tie.Need-put-line-requires
 put-line-requires c κs = search needs
 
 slice-aggregate-put-line-2 : tie.Need-slice-aggregate-put-line-2
-slice-aggregate-put-line-2 c = search needs
+slice-aggregate-put-line-2 c = refl
 
 put-line-requires-2 : tie.Need-put-line-requires-2
 put-line-requires-2 c κs = search needs
 
 slice-aggregate-put-line-3 : tie.Need-slice-aggregate-put-line-3
-slice-aggregate-put-line-3 c = search needs
+slice-aggregate-put-line-3 c = refl
 
 put-line-requires-3 : tie.Need-put-line-requires-3
 put-line-requires-3 c κs = search needs
 
 slice-aggregate-put-line-4 : tie.Need-slice-aggregate-put-line-4
-slice-aggregate-put-line-4 c = search needs
+slice-aggregate-put-line-4 c = refl
 
 put-line-requires-4 : tie.Need-put-line-requires-4
 put-line-requires-4 c κs = search needs

@@ -1,4 +1,5 @@
 -- `listing::put_part` meets its contract.
+use mathlib.Core.Path.{refl}
 use Rattle.print.proofs.WrittenLaws.{written-then, written-within}
 use Rattle.listing.specs.RecordLines.{partWords}
 use Rattle.listing.proofs.LineLaws.{written-part}
@@ -17,7 +18,7 @@ put-behind-requires-2 : tie.Need-put-behind-requires-2
 put-behind-requires-2 c κs = search needs
 
 slice-aggregate-put-word : tie.Need-slice-aggregate-put-word
-slice-aggregate-put-word c = search needs
+slice-aggregate-put-word c = refl
 
 put-word-requires : tie.Need-put-word-requires
 put-word-requires c κs = search needs
@@ -35,7 +36,7 @@ put-word-requires-2 : tie.Need-put-word-requires-2
 put-word-requires-2 c κs = search needs
 
 slice-aggregate-put-word-2 : tie.Need-slice-aggregate-put-word-2
-slice-aggregate-put-word-2 c = search needs
+slice-aggregate-put-word-2 c = refl
 
 put-word-requires-3 : tie.Need-put-word-requires-3
 put-word-requires-3 c κs = search needs

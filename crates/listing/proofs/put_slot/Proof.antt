@@ -1,5 +1,5 @@
 -- `listing::put_slot` meets its contract.
-use mathlib.Core.Path.{sym, _∙_}
+use mathlib.Core.Path.{sym, _∙_, refl}
 use Rattle.print.proofs.WrittenLaws.{written-then, written-within, written-as}
 use Rattle.listing.specs.RecordLines.{absentLine, presentLine}
 use Rattle.listing.proofs.LineLaws.{slot-absent, slot-present}
@@ -30,7 +30,7 @@ word-at-requires-2 : tie.Need-word-at-requires-2
 word-at-requires-2 c κs = search needs
 
 slice-aggregate-put-word : tie.Need-slice-aggregate-put-word
-slice-aggregate-put-word c = search needs
+slice-aggregate-put-word c = refl
 
 put-word-requires : tie.Need-put-word-requires
 put-word-requires c κs = search needs
@@ -42,7 +42,7 @@ is-absent-requires : tie.Need-is-absent-requires
 is-absent-requires c κs = search needs
 
 slice-aggregate-put-word-2 : tie.Need-slice-aggregate-put-word-2
-slice-aggregate-put-word-2 c = search needs
+slice-aggregate-put-word-2 c = refl
 
 put-word-requires-2 : tie.Need-put-word-requires-2
 put-word-requires-2 c κs = search needs

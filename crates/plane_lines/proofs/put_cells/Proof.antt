@@ -57,7 +57,7 @@ loop-again c =
     celling-more (l .loop .inv) (s .pre .1 .cells (s .args .row) (omega arith)) (b .before .before .loop-test .taken) (omega (arith, p .put-number .ensures .short, p .put-number .kept .0)) (b .put-cell .ensures) (b .put-cell .kept .0)
 
 slice-aggregate-put-word : tie.Need-slice-aggregate-put-word Inv-loop μ-loop
-slice-aggregate-put-word c = search needs
+slice-aggregate-put-word c = refl
 
 put-word-requires : tie.Need-put-word-requires Inv-loop μ-loop
 put-word-requires c κs =

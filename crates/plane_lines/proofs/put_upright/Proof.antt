@@ -1,4 +1,5 @@
 -- `plane_lines::put_upright` meets its contract.
+use mathlib.Core.Path.{refl}
 use Rattle.print.proofs.WrittenLaws.{written-then, written-within}
 use Rattle.plane_lines.specs.Planes.{uprightLines}
 use native.Mathlib.Omega.{arith}
@@ -7,7 +8,7 @@ use Rattle.plane_lines.proofs.put_upright.Statement.{statement}
 use Rattle.plane_lines.proofs.put_upright.Tie as tie
 
 slice-aggregate-put-three : tie.Need-slice-aggregate-put-three
-slice-aggregate-put-three c = search needs
+slice-aggregate-put-three c = refl
 
 put-three-requires : tie.Need-put-three-requires
 put-three-requires c κs = search needs

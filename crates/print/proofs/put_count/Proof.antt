@@ -1,4 +1,5 @@
 -- `print::put_count` meets its contract.
+use mathlib.Core.Path.{refl}
 use Rattle.print.specs.Lines.{countLine}
 use Rattle.print.proofs.WrittenLaws.{written-then, written-within}
 use native.Mathlib.Omega.{arith}
@@ -13,7 +14,7 @@ put-number-requires : tie.Need-put-number-requires
 put-number-requires c κs = search needs
 
 slice-aggregate-put-word : tie.Need-slice-aggregate-put-word
-slice-aggregate-put-word c = search needs
+slice-aggregate-put-word c = refl
 
 put-word-requires-2 : tie.Need-put-word-requires-2
 put-word-requires-2 c κs = search needs

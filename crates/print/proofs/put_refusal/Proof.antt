@@ -1,5 +1,5 @@
 -- `print::put_refusal` meets its contract.
-use mathlib.Core.Path.{ap}
+use mathlib.Core.Path.{ap, refl}
 use Rattle.print.specs.Lines.{refusedLine}
 use Rattle.print.proofs.WrittenLaws.{written-as, written-within}
 use native.Mathlib.Omega.{arith}
@@ -11,7 +11,7 @@ refusal-numbers-requires : tie.Need-refusal-numbers-requires
 refusal-numbers-requires c κs = search needs
 
 slice-aggregate-put-three : tie.Need-slice-aggregate-put-three
-slice-aggregate-put-three c = search needs
+slice-aggregate-put-three c = refl
 
 put-three-requires : tie.Need-put-three-requires
 put-three-requires c κs = search needs

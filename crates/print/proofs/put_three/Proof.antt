@@ -1,4 +1,5 @@
 -- `print::put_three` meets its contract.
+use mathlib.Core.Path.{refl}
 use Rattle.print.specs.Lines.{threeLine}
 use Rattle.print.proofs.WrittenLaws.{written-then, written-within}
 use native.Mathlib.Omega.{arith}
@@ -13,7 +14,7 @@ put-number-requires : tie.Need-put-number-requires
 put-number-requires c κs = search needs
 
 slice-aggregate-put-word : tie.Need-slice-aggregate-put-word
-slice-aggregate-put-word c = search needs
+slice-aggregate-put-word c = refl
 
 put-word-requires-2 : tie.Need-put-word-requires-2
 put-word-requires-2 c κs = search needs
@@ -22,7 +23,7 @@ put-number-requires-2 : tie.Need-put-number-requires-2
 put-number-requires-2 c κs = search needs
 
 slice-aggregate-put-word-2 : tie.Need-slice-aggregate-put-word-2
-slice-aggregate-put-word-2 c = search needs
+slice-aggregate-put-word-2 c = refl
 
 put-word-requires-3 : tie.Need-put-word-requires-3
 put-word-requires-3 c κs = search needs
@@ -31,7 +32,7 @@ put-number-requires-3 : tie.Need-put-number-requires-3
 put-number-requires-3 c κs = search needs
 
 slice-aggregate-put-word-3 : tie.Need-slice-aggregate-put-word-3
-slice-aggregate-put-word-3 c = search needs
+slice-aggregate-put-word-3 c = refl
 
 put-word-requires-4 : tie.Need-put-word-requires-4
 put-word-requires-4 c κs = search needs

@@ -1,4 +1,5 @@
 -- `print::put_values` meets its contract.
+use mathlib.Core.Path.{refl}
 use Rattle.print.specs.Lines.{valuesLine}
 use Rattle.print.proofs.WrittenLaws.{written-then, written-within}
 use native.Mathlib.Omega.{arith}
@@ -7,7 +8,7 @@ use Rattle.print.proofs.put_values.Statement.{statement}
 use Rattle.print.proofs.put_values.Tie as tie
 
 slice-aggregate-put-word : tie.Need-slice-aggregate-put-word
-slice-aggregate-put-word c = search needs
+slice-aggregate-put-word c = refl
 
 put-word-requires : tie.Need-put-word-requires
 put-word-requires c κs = search needs
@@ -16,7 +17,7 @@ put-listed-requires : tie.Need-put-listed-requires
 put-listed-requires c κs = search needs
 
 slice-aggregate-put-word-2 : tie.Need-slice-aggregate-put-word-2
-slice-aggregate-put-word-2 c = search needs
+slice-aggregate-put-word-2 c = refl
 
 put-word-requires-2 : tie.Need-put-word-requires-2
 put-word-requires-2 c κs = search needs
@@ -25,7 +26,7 @@ put-listed-requires-2 : tie.Need-put-listed-requires-2
 put-listed-requires-2 c κs = search needs
 
 slice-aggregate-put-word-3 : tie.Need-slice-aggregate-put-word-3
-slice-aggregate-put-word-3 c = search needs
+slice-aggregate-put-word-3 c = refl
 
 put-word-requires-3 : tie.Need-put-word-requires-3
 put-word-requires-3 c κs = search needs

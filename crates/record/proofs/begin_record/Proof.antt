@@ -1,4 +1,5 @@
 -- `record::begin_record` meets its contract.
+use mathlib.Core.Path.{refl}
 use borrow.Author.Needs.{needs}
 use Rattle.record.proofs.Steps.{begin-short, begin-whole}
 use Rattle.record.proofs.begin_record.Statement.{statement}
@@ -26,7 +27,7 @@ cast-t13 : tie.Need-cast-t13
 cast-t13 c = search needs
 
 slice-aggregate-put-words : tie.Need-slice-aggregate-put-words
-slice-aggregate-put-words c = search needs
+slice-aggregate-put-words c = refl
 
 put-words-requires : tie.Need-put-words-requires
 put-words-requires c κs = search needs

@@ -1,4 +1,5 @@
 -- `reports::put_lent_plane` meets its contract.
+use mathlib.Core.Path.{refl}
 use Rattle.lent.specs.LentPlane.{LentPlane}
 use Rattle.policies.specs.LentPolicy.{lentPolicy}
 use Rattle.print.proofs.WrittenLaws.{written-as}
@@ -20,19 +21,19 @@ told : (c : tie.After-read-lent-plane) → Reported (lentPolicy (lent (start c))
 told c = end-reported lentSizes (lentPolicy (lent (start c))) _ _ _ _ _ recordBytes (lent-printable (lent (start c))) (search needs) (search needs) (c .read-lent-plane .ensures)
 
 slice-aggregate-read-lent-plane : tie.Need-slice-aggregate-read-lent-plane
-slice-aggregate-read-lent-plane c = search needs
+slice-aggregate-read-lent-plane c = refl
 
 slice-aggregate-read-lent-plane-2 : tie.Need-slice-aggregate-read-lent-plane-2
-slice-aggregate-read-lent-plane-2 c = search needs
+slice-aggregate-read-lent-plane-2 c = refl
 
 slice-aggregate-read-lent-plane-3 : tie.Need-slice-aggregate-read-lent-plane-3
-slice-aggregate-read-lent-plane-3 c = search needs
+slice-aggregate-read-lent-plane-3 c = refl
 
 slice-aggregate-read-lent-plane-4 : tie.Need-slice-aggregate-read-lent-plane-4
-slice-aggregate-read-lent-plane-4 c = search needs
+slice-aggregate-read-lent-plane-4 c = refl
 
 slice-aggregate-read-lent-plane-5 : tie.Need-slice-aggregate-read-lent-plane-5
-slice-aggregate-read-lent-plane-5 c = search needs
+slice-aggregate-read-lent-plane-5 c = refl
 
 read-lent-plane-requires : tie.Need-read-lent-plane-requires
 read-lent-plane-requires c κs = search needs

@@ -1,5 +1,5 @@
 -- `scan::scan` meets its contract.
-use mathlib.Core.Path.{_∙_}
+use mathlib.Core.Path.{_∙_, refl}
 use Prim.Native.Nat.{_≤_}
 use native.Mathlib.Omega.{arith}
 use borrow.Author.Needs.{needs}
@@ -12,7 +12,7 @@ sheet-start-requires : tie.Need-sheet-start-requires
 sheet-start-requires c κs = search needs
 
 slice-aggregate-measure : tie.Need-slice-aggregate-measure
-slice-aggregate-measure c = search needs
+slice-aggregate-measure c = refl
 
 measure-requires : tie.Need-measure-requires
 measure-requires c κs = search needs

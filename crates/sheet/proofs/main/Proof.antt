@@ -1,17 +1,18 @@
 -- `sheet::main` is safe and ends.
+use mathlib.Core.Path.{refl}
 use native.Mathlib.Omega.{arith}
 use borrow.Author.Needs.{needs}
 use Rattle.sheet.proofs.main.Statement.{statement}
 use Rattle.sheet.proofs.main.Tie as tie
 
 slice-aggregate-read-full : tie.Need-slice-aggregate-read-full
-slice-aggregate-read-full c = search needs
+slice-aggregate-read-full c = refl
 
 read-full-requires : tie.Need-read-full-requires
 read-full-requires c κs = search needs
 
 slice-aggregate-put-printed : tie.Need-slice-aggregate-put-printed
-slice-aggregate-put-printed c = search needs
+slice-aggregate-put-printed c = refl
 
 sub-put-printed : tie.Need-sub-put-printed
 sub-put-printed c = search needs

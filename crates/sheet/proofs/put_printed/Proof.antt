@@ -1,4 +1,5 @@
 -- `sheet::put_printed` meets its contract.
+use mathlib.Core.Path.{refl}
 use Rattle.print.proofs.WrittenLaws.{written-as, written-within}
 use Rattle.sheet.proofs.PrintedLaws.{printed-long, printed-sheet}
 use native.Mathlib.Omega.{arith}
@@ -7,7 +8,7 @@ use Rattle.sheet.proofs.put_printed.Statement.{statement}
 use Rattle.sheet.proofs.put_printed.Tie as tie
 
 slice-aggregate-put-word : tie.Need-slice-aggregate-put-word
-slice-aggregate-put-word c = search needs
+slice-aggregate-put-word c = refl
 
 put-word-requires : tie.Need-put-word-requires
 put-word-requires c κs = search needs

@@ -1,4 +1,5 @@
 -- `sketch::put_layers` meets its contract.
+use mathlib.Core.Path.{refl}
 use Rattle.print.proofs.WrittenLaws.{written-then, written-within}
 use Rattle.sketch.specs.Drawings.{layersLines}
 use native.Mathlib.Omega.{arith}
@@ -7,13 +8,13 @@ use Rattle.sketch.proofs.put_layers.Statement.{statement}
 use Rattle.sketch.proofs.put_layers.Tie as tie
 
 slice-aggregate-put-layer : tie.Need-slice-aggregate-put-layer
-slice-aggregate-put-layer c = search needs
+slice-aggregate-put-layer c = refl
 
 put-layer-requires : tie.Need-put-layer-requires
 put-layer-requires c κs = let e = c .before .before .before .before .before .before .before in (omega (arith, e .pre .0, e .pre .1 .rows), e .pre .1)
 
 slice-aggregate-put-layer-2 : tie.Need-slice-aggregate-put-layer-2
-slice-aggregate-put-layer-2 c = search needs
+slice-aggregate-put-layer-2 c = refl
 
 put-layer-requires-2 : tie.Need-put-layer-requires-2
 put-layer-requires-2 c κs = let p1 = c .before .before .before .before in
@@ -21,7 +22,7 @@ put-layer-requires-2 c κs = let p1 = c .before .before .before .before in
     (omega (arith, p1 .put-layer .kept .0, p1 .put-layer .ensures .short, e .pre .0, e .pre .1 .rows), e .pre .2)
 
 slice-aggregate-put-layer-3 : tie.Need-slice-aggregate-put-layer-3
-slice-aggregate-put-layer-3 c = search needs
+slice-aggregate-put-layer-3 c = refl
 
 put-layer-requires-3 : tie.Need-put-layer-requires-3
 put-layer-requires-3 c κs = let p2 = c .before .before .before .before in
@@ -30,7 +31,7 @@ put-layer-requires-3 c κs = let p2 = c .before .before .before .before in
     (omega (arith, p1 .put-layer .kept .0, p1 .put-layer .ensures .short, p2 .put-layer2 .kept .0, p2 .put-layer2 .ensures .short, e .pre .0, e .pre .1 .rows), e .pre .3)
 
 slice-aggregate-put-layer-4 : tie.Need-slice-aggregate-put-layer-4
-slice-aggregate-put-layer-4 c = search needs
+slice-aggregate-put-layer-4 c = refl
 
 put-layer-requires-4 : tie.Need-put-layer-requires-4
 put-layer-requires-4 c κs = let p3 = c .before .before .before .before in

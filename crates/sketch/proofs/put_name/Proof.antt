@@ -1,4 +1,5 @@
 -- `sketch::put_name` meets its contract.
+use mathlib.Core.Path.{refl}
 use Prim.Native.Nat.{_<_}
 use borrow.Author.Tests.{not-true, not-false}
 use Rattle.print.proofs.WrittenLaws.{written-then, written-within, written-as}
@@ -9,7 +10,7 @@ use Rattle.sketch.proofs.put_name.Statement.{statement}
 use Rattle.sketch.proofs.put_name.Tie as tie
 
 slice-aggregate-put-word : tie.Need-slice-aggregate-put-word
-slice-aggregate-put-word c = search needs
+slice-aggregate-put-word c = refl
 
 put-word-requires : tie.Need-put-word-requires
 put-word-requires c κs = search needs
@@ -22,7 +23,7 @@ returns c = let f = c .before .before .before .before .before in
     written-within (written-as (c .before .before .put-word .ensures) (unnamed _ _ (not-true _ (f .if1 .taken)))) (omega arith)
 
 slice-aggregate-put-word-2 : tie.Need-slice-aggregate-put-word-2
-slice-aggregate-put-word-2 c = search needs
+slice-aggregate-put-word-2 c = refl
 
 put-word-requires-2 : tie.Need-put-word-requires-2
 put-word-requires-2 c κs = search needs
@@ -36,7 +37,7 @@ returns-2 c = let f = c .before .before .before .before .before in
     written-within (written-as (c .before .before .put-word2 .ensures) (no-regions (a .bytes .now) (a .spans .now) (a .n) (a .named) (f .if2 .taken))) (omega arith)
 
 slice-aggregate-put-word-3 : tie.Need-slice-aggregate-put-word-3
-slice-aggregate-put-word-3 c = search needs
+slice-aggregate-put-word-3 c = refl
 
 put-word-requires-3 : tie.Need-put-word-requires-3
 put-word-requires-3 c κs = search needs

@@ -1,6 +1,6 @@
 -- `sketch::put_regions` meets its contract.
 use Prim.Native.Nat.{_-_}
-use mathlib.Core.Path.{_∙_}
+use mathlib.Core.Path.{_∙_, refl}
 use Rattle.sketch.proofs.RegionLaws.{Listing, listing-start, listing-room, listing-more, listing-end}
 use native.Mathlib.Omega.{arith}
 use borrow.Author.Needs.{needs}
@@ -14,7 +14,7 @@ abbrev μ-loop : tie.MeasureT-loop
 μ-loop out₀ at rects bytes spans n m₀ k₀ out m k = n - k
 
 slice-aggregate-put-count : tie.Need-slice-aggregate-put-count Inv-loop μ-loop
-slice-aggregate-put-count c = search needs
+slice-aggregate-put-count c = refl
 
 put-count-requires : tie.Need-put-count-requires Inv-loop μ-loop
 put-count-requires c κs = search needs

@@ -1,11 +1,10 @@
 -- `sketch::put_row` meets its contract.
 use native.Mathlib.Omega.{arith}
 use Prim.Native.Nat.{_-_}
-use mathlib.Core.Path.{_∙_}
+use mathlib.Core.Path.{_∙_, refl}
 use Rattle.lists.specs.Picture.{canvas, pic}
 use Rattle.lists.proofs.PictureLaws.{within-in, place-fits}
 use Rattle.sketch.proofs.LayerLaws.{Rowing, rowing-start, rowing-more, rowing-end}
-use borrow.Author.Needs.{needs}
 use Rattle.sketch.proofs.put_row.Statement.{statement}
 use Rattle.sketch.proofs.put_row.Tie as tie
 
@@ -58,7 +57,7 @@ loop-again c = let l = c .before .before .before .before .before .before in
     (c .before .before .put-code .ensures) (c .before .before .put-code .kept .0)
 
 slice-aggregate-put-word : tie.Need-slice-aggregate-put-word Inv-loop μ-loop
-slice-aggregate-put-word c = search needs
+slice-aggregate-put-word c = refl
 
 put-word-requires : tie.Need-put-word-requires Inv-loop μ-loop
 put-word-requires c κs = let l = c .before .before .before in

@@ -1,4 +1,5 @@
 -- `sketch::put_spaced` meets its contract.
+use mathlib.Core.Path.{refl}
 use native.Mathlib.Omega.{arith}
 use Rattle.print.proofs.WrittenLaws.{written-then, written-within}
 use borrow.Author.Needs.{needs}
@@ -9,7 +10,7 @@ put-number-requires : tie.Need-put-number-requires
 put-number-requires c κs = search needs
 
 slice-aggregate-put-word : tie.Need-slice-aggregate-put-word
-slice-aggregate-put-word c = search needs
+slice-aggregate-put-word c = refl
 
 put-word-requires : tie.Need-put-word-requires
 put-word-requires c κs = search needs

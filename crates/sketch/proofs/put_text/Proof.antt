@@ -1,5 +1,5 @@
 -- `sketch::put_text` meets its contract.
-use mathlib.Core.Path.{ap, _∙_}
+use mathlib.Core.Path.{ap, _∙_, refl}
 use lib.ListN.{length}
 use Rattle.sketch.proofs.RegionLaws.{length-text, written-text}
 use native.Mathlib.Omega.{arith}
@@ -19,7 +19,7 @@ put-word-requires c κs =
     omega (arith, s .pre .0, ap length (c .text-at .ensures) ∙ length-text (s .args .bytes .now) (s .args .spans .now) (s .args .k) (s .pre .2))
 
 slice-aggregate-put-word : tie.Need-slice-aggregate-put-word
-slice-aggregate-put-word c = search needs
+slice-aggregate-put-word c = refl
 
 put-word-requires-2 : tie.Need-put-word-requires-2
 put-word-requires-2 c κs =

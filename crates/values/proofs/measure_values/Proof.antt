@@ -1,4 +1,5 @@
 -- `values::measure_values` meets its contract.
+use mathlib.Core.Path.{refl}
 use borrow.Author.Needs.{needs}
 use Rattle.values.proofs.ValueLaws.{part-sizes, measured-plain, measured-marked}
 use Rattle.values.proofs.measure_values.Statement.{statement}
@@ -17,7 +18,7 @@ part-periods-of-end : tie.Need-part-periods-of-end
 part-periods-of-end c = search needs
 
 slice-aggregate-periods-of : tie.Need-slice-aggregate-periods-of
-slice-aggregate-periods-of c = search needs
+slice-aggregate-periods-of c = refl
 
 periods-of-requires : tie.Need-periods-of-requires
 periods-of-requires c κs = (part-sizes (c .before .before .before .first-marked .ensures) (c .before .before .if1 .taken) .0, search needs)

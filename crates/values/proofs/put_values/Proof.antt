@@ -18,7 +18,7 @@ part-periods-of-end : tie.Need-part-periods-of-end
 part-periods-of-end c = search needs
 
 slice-aggregate-periods-of : tie.Need-slice-aggregate-periods-of
-slice-aggregate-periods-of c = search needs
+slice-aggregate-periods-of c = refl
 
 periods-of-requires : tie.Need-periods-of-requires
 periods-of-requires c κs = (part-sizes (c .before .before .before .first-marked .ensures) (c .before .before .if1 .taken) .0, search needs)
