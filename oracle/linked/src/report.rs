@@ -35,7 +35,8 @@ const HAS_CORNERS: Reach =
     No("policies DrawnNotEmpty.drawn-placement: each row of a drawing's plane has cells");
 const HAS_CELLS: Reach =
     No("policies DrawnNotEmpty.drawn-numbers: each row of a drawing's plane has cells");
-const ONE_LINE: Reach = Open("no law; none was found, and docs/EVIDENCE.md tells why none is expected");
+const ONE_LINE: Reach =
+    Open("no law; none was found, and docs/EVIDENCE.md tells why none is expected");
 
 /// A refusal: its name in the counts, what it means, and its reach by the reader, the lent plane and the split.
 type Row = (&'static str, &'static str, [Reach; 3]);
