@@ -35,16 +35,17 @@ use Rattle.walks.proofs.Framed as F
 use Rattle.walks.proofs.Framed.Laws as F′
 use Rattle.walks.proofs.Walked as N
 use Rattle.walks.proofs.Walked.Laws as N′
-use Rattle.frames.specs.{Answers.closedOf, Body.bodyOf, Cursor.point}
+use Rattle.frames.specs.{Answers.closedOf, Body.bodyOf}
 use Rattle.along.{specs.Characters.kindOf, specs.declared.Lines.Lines}
 use Rattle.along.specs.declared.Lines.the-variants as kinds
 use Rattle.along.proofs.Lines as L
 use Rattle.along.proofs.Lines.Laws as L′
-use Rattle.frames.proofs.{CursorLaws.Moves, CursorLaws.stays, CursorLaws.around, CursorLaws.sides-found, Thin.Layer, Thin.layer-val, Thin.layer-own, Thin.mach, Thin.told, Thin.lined, Thin.Found, Thin.thin}
+use Rattle.cursors.{specs.Cursor.point, proofs.CursorLaws.Moves, proofs.CursorLaws.stays, proofs.Thin.Layer, proofs.Thin.layer-val, proofs.Thin.layer-own, proofs.Thin.mach, proofs.Thin.told, proofs.Thin.lined, proofs.Thin.Found, proofs.Thin.thin}
+use Rattle.frames.proofs.{FourWalks.around, FourWalks.sides-found}
 use Rattle.frames.proofs.closed as closed
 use Rattle.frames.proofs.region_frame as chain
 use Rattle.frames.proofs.right_from as one
-use Rattle.frames.proofs.search_right as right
+use Rattle.cursors.proofs.search_right as right
 
 module _ {M : Type 1} (𝓤 : URA M) (H : Heap 𝓤) (A : Atoms 𝓤) (W : Given 𝓤 H A) where
   pub lies-in : (h : Point) (b o : ℕ) → Is P.the-row h (mach h ∷ []) → ent 𝓤 (sem 𝓤 H A (fat fullShare P′.mir b o (mach h))) (sem 𝓤 H A (mem P.the-row .lies h b o))

@@ -1,4 +1,3 @@
--- Laws of the cursor and of its walks.
-pub mod CursorLaws
-pub mod Thin
+-- Laws of four walks of one cursor.
+pub mod FourWalks
 pub mod Chain

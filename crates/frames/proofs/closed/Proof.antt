@@ -1,7 +1,7 @@
 -- `frames::closed` meets its contract.
 use mathlib.Core.Path.{sym, ap, _∙_}
 use Rattle.walks.specs.Walk.{stepsIn}
-use Rattle.frames.proofs.CursorLaws.{all-stopped, all-walked}
+use Rattle.frames.proofs.FourWalks.{all-stopped, all-walked}
 use borrow.Author.Needs.{needs}
 use Rattle.frames.proofs.closed.Statement.{statement}
 use Rattle.frames.proofs.closed.Tie as tie

@@ -4,9 +4,9 @@ use denote.Triple.Spec.{tripleOf}
 use denote.Triple.Table.{entered, cited}
 use Rattle.walks.specs.declared.Direction.the-variants.{Down}
 use Rattle.frames.proofs.Chain.{Walker, single-meets}
-use Rattle.frames.proofs.search_down.Symbol as walk-def
-use Rattle.frames.proofs.search_down.Symbol.{name as #frames·search-down}
-use Rattle.frames.proofs.search_down.Met as walk-thm
+use Rattle.cursors.proofs.search_down.Symbol as walk-def
+use Rattle.cursors.proofs.search_down.Symbol.{name as #cursors·search-down}
+use Rattle.cursors.proofs.search_down.Met as walk-thm
 use Rattle.frames.proofs.down_from.Key.{name as #frames·down-from}
 use Rattle.frames.proofs.down_from as fn
 use Rattle.frames.proofs.down_from.Statement as stated
@@ -17,5 +17,5 @@ unfolding code.routine tablesOf
 down-from-spec 𝓤 H 𝓜 𝓖 𝓡 =
     entered 𝓤 H (tripleOf 𝓤 H (𝓖 .A) fn.signature (fn.spec 𝓤 H (𝓖 .A) (𝓜 .mem) (𝓡 .run)))
     (tables 𝓤 H 𝓜 𝓡 code.env .C) (tables 𝓤 H 𝓜 𝓡 code.env .Λ) #frames·down-from code.function (code.unfolded 𝓤 H 𝓜 𝓡)
-    (single-meets Down #frames·search-down 𝓤 H (𝓖 .A) (givenOf 𝓤 H 𝓜 𝓖) (tablesOf 𝓤 H 𝓜 (tables 𝓤 H 𝓜 𝓡 code.env))
-    (cited 𝓤 H (Walker Down 𝓤 H (𝓖 .A)) 𝓜 𝓡 code.env #frames·search-down walk-def.routine code.calls-frames·search-down (walk-thm.met 𝓤 H 𝓜 𝓖 𝓡)))
+    (single-meets Down #cursors·search-down 𝓤 H (𝓖 .A) (givenOf 𝓤 H 𝓜 𝓖) (tablesOf 𝓤 H 𝓜 (tables 𝓤 H 𝓜 𝓡 code.env))
+    (cited 𝓤 H (Walker Down 𝓤 H (𝓖 .A)) 𝓜 𝓡 code.env #cursors·search-down walk-def.routine code.calls-cursors·search-down (walk-thm.met 𝓤 H 𝓜 𝓖 𝓡)))

@@ -5,7 +5,7 @@ use Rattle.model.specs.Refusals.{Reading}
 use Rattle.model.specs.declared.Point.{Point}
 use Rattle.walks.specs.declared.Direction.{Direction}
 use Rattle.walks.specs.declared.Direction.the-variants.{Right, Down, Left, Up}
-use Rattle.frames.specs.declared.Moved.{Moved}
+use Rattle.cursors.specs.declared.Moved.{Moved}
 
 abbrev pub point : ℕ → ℕ → Point
 point x y = record { x = x; y = y }

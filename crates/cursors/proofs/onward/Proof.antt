@@ -1,8 +1,8 @@
--- `frames::onward` meets its contract.
+-- `cursors::onward` meets its contract.
 use mathlib.Core.Path.{refl}
 use borrow.Author.Needs.{needs}
-use Rattle.frames.proofs.onward.Statement.{statement}
-use Rattle.frames.proofs.onward.Tie as tie
+use Rattle.cursors.proofs.onward.Statement.{statement}
+use Rattle.cursors.proofs.onward.Tie as tie
 
 pub onward-spec : {M : Type 1} → statement M
 onward-spec =

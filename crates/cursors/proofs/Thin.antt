@@ -31,13 +31,13 @@ use Rattle.walks.{specs.Frame.Place, specs.Walk.stepsIn, specs.declared.Directi
 use Rattle.walks.proofs.Walked as N
 use Rattle.walks.proofs.Walked.Laws as N′
 use Rattle.along.{specs.Characters.alongOf, specs.declared.Lines.Lines}
-use Rattle.frames.specs.{Cursor.point, Cursor.placeOf, Cursor.placeAfter, declared.Moved.Moved}
+use Rattle.cursors.specs.{Cursor.point, Cursor.placeOf, Cursor.placeAfter, declared.Moved.Moved}
 use Rattle.along.proofs.Lines as L
 use Rattle.along.proofs.Lines.Laws as L′
-use Rattle.frames.proofs.Moved as Mv
-use Rattle.frames.proofs.Moved.Laws as Mv′
-use Rattle.frames.proofs.right_at as right-at
-use Rattle.frames.proofs.search_right as right
+use Rattle.cursors.proofs.Moved as Mv
+use Rattle.cursors.proofs.Moved.Laws as Mv′
+use Rattle.cursors.proofs.right_at as right-at
+use Rattle.cursors.proofs.search_right as right
 
 -- the machine values of a layer, a cursor, lines and an answer
 abbrev pub Layer : Type 0

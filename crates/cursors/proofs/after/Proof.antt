@@ -1,11 +1,11 @@
--- `frames::after` meets its contract.
+-- `cursors::after` meets its contract.
 use mathlib.Core.Path.{refl, subst}
 use Rattle.walks.specs.Walk.{stepsIn}
 use Rattle.walks.specs.declared.Walked.{Walked}
-use Rattle.frames.specs.Cursor.{MoveFits}
+use Rattle.cursors.specs.Cursor.{MoveFits}
 use borrow.Author.Needs.{needs}
-use Rattle.frames.proofs.after.Statement.{statement}
-use Rattle.frames.proofs.after.Tie as tie
+use Rattle.cursors.proofs.after.Statement.{statement}
+use Rattle.cursors.proofs.after.Tie as tie
 
 onward-requires : tie.Need-onward-requires
 onward-requires c κs =

@@ -1,11 +1,11 @@
--- `frames::walk_at` meets its contract.
+-- `cursors::walk_at` meets its contract.
 use lib.ListN.{length}
 use Rattle.lists.specs.Picture.{canvas}
 use Rattle.walks.specs.Walk.{stepsIn}
-use Rattle.frames.proofs.CursorLaws.{fits, arrives}
+use Rattle.cursors.proofs.CursorLaws.{fits, arrives}
 use borrow.Author.Needs.{needs}
-use Rattle.frames.proofs.walk_at.Statement.{statement}
-use Rattle.frames.proofs.walk_at.Tie as tie
+use Rattle.cursors.proofs.walk_at.Statement.{statement}
+use Rattle.cursors.proofs.walk_at.Tie as tie
 
 after-requires : tie.Need-after-requires
 after-requires c κs =
