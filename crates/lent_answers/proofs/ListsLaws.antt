@@ -10,7 +10,7 @@ use Rattle.policies.specs.LentPolicy.{lentPolicy}
 use Rattle.lines.specs.LentText.{listAt, lentAt}
 use Rattle.lines.specs.declared.Ends.{Ends}
 use Rattle.answers.specs.LentLines.{lentLines}
-use Rattle.reports.specs.PolicyLines.{recordBytes, policyLines}
+use Rattle.outcome_lines.specs.PolicyLines.{recordBytes, policyLines}
 use Rattle.lent_answers.specs.Lines.{linesBy}
 
 -- a flag that asks for the record, and one that asks for the upright sheet

@@ -5,7 +5,7 @@ use Prim.Native.Nat.{ℕ}
 use Rattle.lent.specs.LentPlane.{LentPlane}
 use Rattle.policies.specs.LentPolicy.{lentPolicy}
 use Rattle.answers.specs.LentLines.{lentLines}
-use Rattle.reports.specs.PolicyLines.{recordBytes, policyLines}
+use Rattle.outcome_lines.specs.PolicyLines.{recordBytes, policyLines}
 
 -- those of its table's record, or those of its upright sheet
 unfoldable pub linesBy : Bool → LentPlane → List ℕ

@@ -26,7 +26,7 @@ fn put_lists(
     ensures { λ r. ⌜ Written (now (out .entry)) (now (out .exit)) at (linesBy «is_table» (record { rows = now (rows .entry); kinds = now (kinds .entry); regions = now (regions .entry); offsets = now (offsets .entry); sizes = now (sizes .entry); bytes = now (bytes .entry) })) lineBytes r ⌝ }
 {
     if is_table {
-        return reports::put_lent_plane(out, at, rows, kinds, regions, offsets, sizes, bytes);
+        return lent_reports::put_lent_plane(out, at, rows, kinds, regions, offsets, sizes, bytes);
     }
     answers::put_upright_sheet(out, at, rows, kinds, regions, offsets, sizes, bytes)
 }

@@ -16,7 +16,7 @@ use Rattle.drawings.specs.DrawingLines.{drawingLines}
 use Rattle.lent_answers.specs.Lines.{linesBy}
 use Rattle.lines.specs.Room.{lineBytes}
 use Rattle.answers.specs.SplitLines.{splitLine}
-use Rattle.reports.specs.PolicyLines.{recordBytes, policyLines}
+use Rattle.outcome_lines.specs.PolicyLines.{recordBytes, policyLines}
 use Rattle.replay.specs.Kinds.{kindOf, wordOf, restOf}
 use Rattle.replay.specs.declared.Answered.{Answered}
 use Rattle.replay.specs.declared.Answered.the-variants.{Upto, NoText}

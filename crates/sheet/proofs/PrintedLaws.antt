@@ -10,7 +10,7 @@ use borrow.Author.Tests.{lt-ltb, le-ltb, ltb-true, ltb-false}
 use Rattle.lists.proofs.Tests.{by-flag}
 use Rattle.model.specs.Limits.{textBytes}
 use Rattle.policies.specs.DrawnPolicy.{walkedPolicy}
-use Rattle.reports.specs.PolicyLines.{recordBytes, policyLines}
+use Rattle.outcome_lines.specs.PolicyLines.{recordBytes, policyLines}
 use Rattle.sheet.specs.Printed.{tooLongLine, printedFor}
 
 pub printed-long : (s : List ℕ) → textBytes < length s → tooLongLine ≡ printedFor s

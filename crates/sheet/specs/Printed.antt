@@ -7,7 +7,7 @@ use Rattle.lists.specs.Choose.{choose}
 use Rattle.model.specs.Limits.{textBytes}
 use Rattle.policies.specs.DrawnPolicy.{walkedPolicy}
 use Rattle.print.specs.Lines.{lineFeed}
-use Rattle.reports.specs.PolicyLines.{recordBytes, policyLines}
+use Rattle.outcome_lines.specs.PolicyLines.{recordBytes, policyLines}
 
 -- "too long" and a line feed
 abbrev pub tooLongLine : List ℕ

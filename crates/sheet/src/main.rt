@@ -1,10 +1,10 @@
 // Reads a sheet from standard input and prints its record, or why there is none.
 use model::limits::TEXT_BYTES;
-use reports::REPORT_BYTES;
+use outcome_lines::REPORT_BYTES;
 ghost use Prim.Native.Nat.{_≤_};
 ghost use lib.ListN.{length};
 ghost use Rattle.print.specs.Decimal.{Written};
-ghost use Rattle.reports.specs.PolicyLines.{reportBytes};
+ghost use Rattle.outcome_lines.specs.PolicyLines.{reportBytes};
 ghost use Rattle.sheet.specs.Printed.{printedFor};
 
 // One byte more than a sheet may have, to see that it is too long.

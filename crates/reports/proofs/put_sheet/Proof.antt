@@ -3,8 +3,8 @@ use mathlib.Core.Path.{refl}
 use Rattle.policies.specs.DrawnPolicy.{walkedPolicy}
 use Rattle.print.proofs.WrittenLaws.{written-as}
 use Rattle.builder.specs.SheetEnd.{sheetSizes}
-use Rattle.reports.specs.PolicyLines.{recordBytes}
-use Rattle.reports.proofs.OutcomeLaws.{Reported, drawn-printable, end-reported}
+use Rattle.outcome_lines.specs.PolicyLines.{recordBytes}
+use Rattle.outcome_lines.proofs.OutcomeLaws.{Reported, drawn-printable, end-reported}
 use native.Mathlib.Omega.{arith}
 use borrow.Author.Needs.{needs}
 use Rattle.reports.proofs.put_sheet.Statement.{statement}

@@ -35,8 +35,8 @@ use Rattle.room.specs.Room.{roomFrom}
 use Rattle.room.proofs.RoomLaws.{room-exact}
 use Rattle.ends.specs.Ends.{End, endBy, endOf}
 use Rattle.records.specs.declared.Outcome.{Outcome}
-use Rattle.reports.specs.Outcomes.{outcomeLines, OutcomeSound}
-use Rattle.reports.specs.PolicyLines.{policyLines}
+use Rattle.outcome_lines.specs.Outcomes.{outcomeLines, OutcomeSound}
+use Rattle.outcome_lines.specs.PolicyLines.{policyLines}
 
 orientation-fits : (o : Orientation) → orientationNumber o < 2 ^ 32
 orientation-fits RulesAsRows = omega arith

@@ -1,12 +1,12 @@
--- `reports::put_outcome` meets its contract.
+-- `outcome_lines::put_outcome` meets its contract.
 use mathlib.Core.Path.{sym, ap, subst}
 use Rattle.print.proofs.WrittenLaws.{written-as, written-within}
 use Rattle.records.specs.declared.Outcome.{Outcome}
-use Rattle.reports.specs.Outcomes.{outcomeLines, OutcomeSound}
+use Rattle.outcome_lines.specs.Outcomes.{outcomeLines, OutcomeSound}
 use native.Mathlib.Omega.{arith}
 use borrow.Author.Needs.{needs}
-use Rattle.reports.proofs.put_outcome.Statement.{statement}
-use Rattle.reports.proofs.put_outcome.Tie as tie
+use Rattle.outcome_lines.proofs.put_outcome.Statement.{statement}
+use Rattle.outcome_lines.proofs.put_outcome.Tie as tie
 
 enum-told : tie.Need-enum-told
 enum-told c = search needs

@@ -1,15 +1,15 @@
--- `reports::put_lent_plane` meets its contract.
+-- `lent_reports::put_lent_plane` meets its contract.
 use mathlib.Core.Path.{refl}
 use Rattle.lent.specs.LentPlane.{LentPlane}
 use Rattle.policies.specs.LentPolicy.{lentPolicy}
 use Rattle.print.proofs.WrittenLaws.{written-as}
 use Rattle.lent_builder.specs.LentEnd.{lentSizes}
-use Rattle.reports.specs.PolicyLines.{recordBytes}
-use Rattle.reports.proofs.OutcomeLaws.{Reported, lent-printable, end-reported}
+use Rattle.outcome_lines.specs.PolicyLines.{recordBytes}
+use Rattle.outcome_lines.proofs.OutcomeLaws.{Reported, lent-printable, end-reported}
 use native.Mathlib.Omega.{arith}
 use borrow.Author.Needs.{needs}
-use Rattle.reports.proofs.put_lent_plane.Statement.{statement}
-use Rattle.reports.proofs.put_lent_plane.Tie as tie
+use Rattle.lent_reports.proofs.put_lent_plane.Statement.{statement}
+use Rattle.lent_reports.proofs.put_lent_plane.Tie as tie
 
 abbrev start : tie.After-read-lent-plane → tie.Start
 start c = c .before .before .before .before .before .before .before .before .before .before .before .before .before
