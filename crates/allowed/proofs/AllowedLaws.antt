@@ -11,8 +11,9 @@ use Rattle.model.specs.Refusals.{Reading}
 use Rattle.model.specs.declared.Refusal.{Refusal}
 use Rattle.model.specs.declared.Refusal.the-variants.{ClauseRows, InvalidInputExpressions, InvalidOutputExpressions}
 use Rattle.cells.specs.Plane.{Plane}
+use Rattle.cell_tests.specs.SheetCells.{columnsAre}
 use Rattle.allowed.specs.Allowed.{allowedBy, allowedTwo, allowedThree, allowedOf}
-use Rattle.allowed.specs.SheetCells.{columnsAre, allApart}
+use Rattle.allowed.specs.Apart.{allApart}
 
 -- a sheet without clause rows is refused
 pub some-rows : (P : Plane) (n m h : ℕ) (t : Bool) → allowedOf P n m h ≡ ok t → 1 ≤ h

@@ -1,5 +1,3 @@
--- Laws of the tests on cells.
-pub mod CellLaws
-mod TestLaws
+-- Laws of regions met twice, and of allowed values.
 mod MetLaws
 pub mod AllowedLaws

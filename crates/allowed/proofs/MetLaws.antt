@@ -18,12 +18,13 @@ use Rattle.model.specs.Cells.{cellOfKind, regionOf}
 use Rattle.model.specs.declared.Refusal.{Refusal}
 use Rattle.model.specs.declared.Refusal.the-variants.{CellNotRegion}
 use Rattle.cells.specs.Plane.{Plane, placeAt, cellAt, planeIn}
-use Rattle.allowed.specs.SheetCells.{regionAt, twice, once, meetRow, apartFrom, allApart}
+use Rattle.cell_tests.specs.SheetCells.{regionAt}
+use Rattle.cell_tests.specs.Told.{testIn}
+use Rattle.cell_tests.specs.declared.Test.{Test}
+use Rattle.cell_tests.specs.declared.Test.the-variants.{Is, NotTold}
+use Rattle.cell_tests.proofs.CellLaws.{region-below, region-right, region-by}
+use Rattle.allowed.specs.Apart.{twice, once, meetRow, apartFrom, allApart}
 use Rattle.allowed.specs.Met.{met, metIn}
-use Rattle.allowed.specs.Told.{testIn}
-use Rattle.allowed.specs.declared.Test.{Test}
-use Rattle.allowed.specs.declared.Test.the-variants.{Is, NotTold}
-use Rattle.allowed.proofs.CellLaws.{region-below, region-right, region-by}
 
 -- the region's number that a slice holds
 abbrev numberAt : List ℕ → ℕ → ℕ → ℕ

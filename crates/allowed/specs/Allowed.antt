@@ -8,8 +8,9 @@ use Rattle.lists.specs.Choose.{choose}
 use Rattle.model.specs.Refusals.{Reading}
 use Rattle.model.specs.declared.Refusal.the-variants.{ClauseRows, InvalidInputExpressions, InvalidOutputExpressions}
 use Rattle.cells.specs.Plane.{Plane}
-use Rattle.allowed.specs.Readings.{refuse}
-use Rattle.allowed.specs.SheetCells.{columnsAre, allApart}
+use Rattle.cell_tests.specs.Readings.{refuse}
+use Rattle.cell_tests.specs.SheetCells.{columnsAre}
+use Rattle.allowed.specs.Apart.{allApart}
 
 -- the five facts for two clause rows: the inputs' cells are joined, there are inputs, there are several outputs, the outputs' cells
 -- are joined, the outputs' cells are all apart

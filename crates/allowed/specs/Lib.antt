@@ -1,5 +1,3 @@
-pub mod Readings
-pub mod SheetCells
+pub mod Apart
 pub mod Allowed
 pub mod Met
-pub mod Told

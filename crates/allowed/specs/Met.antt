@@ -6,9 +6,9 @@ use lib.ListN.{getD}
 use Rattle.lists.specs.Answer.{ok, refused}
 use Rattle.model.specs.Refusals.{Reading}
 use Rattle.cells.specs.Plane.{placeAt}
-use Rattle.allowed.specs.SheetCells.{Met, twice, once}
-use Rattle.allowed.specs.declared.Test.{Test}
-use Rattle.allowed.specs.declared.Test.the-variants.{Is, NotTold}
+use Rattle.cell_tests.specs.declared.Test.{Test}
+use Rattle.cell_tests.specs.declared.Test.the-variants.{Is, NotTold}
+use Rattle.allowed.specs.Apart.{Met, twice, once}
 
 -- those of the n cells of row y from column x on, in front of s
 unfoldable pub met : List ℕ → ℕ → ℕ → ℕ → List ℕ → List ℕ

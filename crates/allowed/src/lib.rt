@@ -1,5 +1,6 @@
 // The tests on the cells of an upright sheet that tell whether its clauses have allowed values.
-use model::CellRegion;
+use cell_tests::CellRead;
+use cell_tests::Test;
 use model::Refusal;
 use model::limits::PLANE_CELLS;
 use model::limits::PLANE_ROWS;
@@ -11,78 +12,10 @@ ghost use lib.ListN.{length};
 ghost use Rattle.lists.specs.OneOf.{oneOf};
 ghost use Rattle.model.specs.Limits.{planeRows, planeCells, planeSize};
 ghost use Rattle.cells.specs.Plane.{planeIn, PlaneFits};
-ghost use Rattle.allowed.specs.SheetCells.{regionAt, columnIs, columnsAre, meetRow, allApart};
+ghost use Rattle.cell_tests.specs.Told.{testIn};
+ghost use Rattle.allowed.specs.Apart.{meetRow, allApart};
 ghost use Rattle.allowed.specs.Allowed.{allowedBy, allowedTwo, allowedThree, allowedOf};
 ghost use Rattle.allowed.specs.Met.{met, metAbove, metIn};
-ghost use Rattle.allowed.specs.Told.{regionIn, testIn};
-
-// A cell's region, or why it has none.
-pub enum CellRead {
-    Number(usize),
-    NotRead(Refusal),
-}
-
-// The region of the cell in row y, column x.
-pub fn region_at(plane: &[u32], rows: usize, y: usize, x: usize) -> CellRead
-    requires { ⌜ PlaneFits (now plane) rows ⌝ }
-    ensures { λ r. ⌜ regionIn r ≡ regionAt (planeIn (now (plane .entry)) rows) y x ⌝ }
-{
-    if rows <= y {
-        return CellRead::NotRead(Refusal::CellOutOfRange(y, x));
-    }
-    if plane[y] as usize <= x {
-        return CellRead::NotRead(Refusal::CellOutOfRange(y, x));
-    }
-    match model::region_of(cells::cell_at(plane, y, x)) {
-        CellRegion::Number(r) => CellRead::Number(r),
-        CellRegion::NoRegion => CellRead::NotRead(Refusal::CellNotRegion(y, x)),
-    }
-}
-
-// A fact of cells, or why it cannot be told.
-pub enum Test {
-    Is(bool),
-    NotTold(Refusal),
-}
-
-// Whether the cells of rows top and top + 1 in column x are of one region (joined), or of two.
-pub fn column_is(plane: &[u32], rows: usize, joined: bool, top: usize, x: usize) -> Test
-    requires { ⌜ PlaneFits (now plane) rows × (top < planeRows) ⌝ }
-    ensures { λ r. ⌜ testIn r ≡ columnIs joined (planeIn (now (plane .entry)) rows) top x ⌝ }
-{
-    let a = match region_at(plane, rows, top, x) {
-        CellRead::Number(r) => r,
-        CellRead::NotRead(r) => return Test::NotTold(r),
-    };
-    let b = match region_at(plane, rows, top + 1, x) {
-        CellRead::Number(r) => r,
-        CellRead::NotRead(r) => return Test::NotTold(r),
-    };
-    if a == b {
-        return Test::Is(joined);
-    }
-    Test::Is(!joined)
-}
-
-// So in each of the n columns from x on.
-fn columns_are(plane: &[u32], rows: usize, joined: bool, top: usize, x: usize, n: usize) -> Test
-    requires { ⌜ PlaneFits (now plane) rows × (top < planeRows) × (x + n ≤ 128) ⌝ }
-    ensures { λ r. ⌜ testIn r ≡ columnsAre joined (planeIn (now (plane .entry)) rows) top x n ⌝ }
-{
-    let mut i = 0;
-    while i < n {
-        match column_is(plane, rows, joined, top, x + i) {
-            Test::Is(t) => {
-                if !t {
-                    return Test::Is(false);
-                }
-            }
-            Test::NotTold(r) => return Test::NotTold(r),
-        }
-        i += 1;
-    }
-    Test::Is(true)
-}
 
 // Whether region a is among the n cells of row y from column x on.
 fn is_among(plane: &[u32], y: usize, x: usize, n: usize, a: usize) -> bool
@@ -122,7 +55,7 @@ fn row_apart(plane: &[u32], rows: usize, y: usize, x: usize, n: usize, above: bo
 {
     let mut i = 0;
     while i < n {
-        match region_at(plane, rows, y, x + i) {
+        match cell_tests::region_at(plane, rows, y, x + i) {
             CellRead::Number(a) => {
                 if is_met(plane, y, x, n, i, a, above) {
                     return Test::Is(false);
@@ -175,11 +108,11 @@ fn allowed_two(plane: &[u32], rows: usize, n: usize, m: usize) -> Test
     requires { ⌜ PlaneFits (now plane) rows × (n + 1 + m ≤ planeCells) ⌝ }
     ensures { λ r. ⌜ testIn r ≡ allowedTwo (planeIn (now (plane .entry)) rows) n m ⌝ }
 {
-    let inputs = match columns_are(plane, rows, true, 0, 0, n) {
+    let inputs = match cell_tests::columns_are(plane, rows, true, 0, 0, n) {
         Test::Is(t) => t,
         Test::NotTold(r) => return Test::NotTold(r),
     };
-    let outputs = match columns_are(plane, rows, true, 0, n + 1, m) {
+    let outputs = match cell_tests::columns_are(plane, rows, true, 0, n + 1, m) {
         Test::Is(t) => t,
         Test::NotTold(r) => return Test::NotTold(r),
     };
@@ -195,7 +128,7 @@ fn allowed_three(plane: &[u32], rows: usize, n: usize, m: usize) -> Test
     requires { ⌜ PlaneFits (now plane) rows × (n + 1 + m ≤ planeCells) ⌝ }
     ensures { λ r. ⌜ testIn r ≡ allowedThree (planeIn (now (plane .entry)) rows) n m ⌝ }
 {
-    match columns_are(plane, rows, false, 1, 0, n) {
+    match cell_tests::columns_are(plane, rows, false, 1, 0, n) {
         Test::Is(t) => {
             if !t {
                 return Test::NotTold(Refusal::InvalidInputExpressions);
@@ -203,7 +136,7 @@ fn allowed_three(plane: &[u32], rows: usize, n: usize, m: usize) -> Test
         }
         Test::NotTold(r) => return Test::NotTold(r),
     }
-    match columns_are(plane, rows, false, 1, n + 1, m) {
+    match cell_tests::columns_are(plane, rows, false, 1, n + 1, m) {
         Test::Is(t) => {
             if !t {
                 return Test::NotTold(Refusal::InvalidOutputExpressions);

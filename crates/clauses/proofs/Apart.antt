@@ -17,8 +17,8 @@ use Rattle.model.specs.Refusals.{Reading}
 use Rattle.model.specs.declared.Refusal.the-variants.{PlaneMalformed}
 use Rattle.cells.specs.Plane.{Plane}
 use Rattle.record.specs.Policy.{Text}
-use Rattle.allowed.specs.Readings.{refuse}
-use Rattle.allowed.specs.SheetCells.{widthOf, regionAt, columnIs}
+use Rattle.cell_tests.specs.Readings.{refuse}
+use Rattle.cell_tests.specs.SheetCells.{widthOf, regionAt, columnIs}
 use Rattle.allowed.specs.Allowed.{allowedOf}
 use Rattle.clauses.specs.Readings.{along}
 use Rattle.clauses.specs.SheetCells.{Place}

@@ -16,8 +16,8 @@ use Rattle.lists.proofs.RunLaws.{length-run}
 use Rattle.model.specs.Refusals.{Reading}
 use Rattle.model.specs.declared.Refusal.the-variants.{PlaneMalformed, InvalidSize}
 use Rattle.cells.specs.Plane.{Plane}
-use Rattle.allowed.specs.Readings.{refuse}
-use Rattle.allowed.specs.SheetCells.{columnIs}
+use Rattle.cell_tests.specs.Readings.{refuse}
+use Rattle.cell_tests.specs.SheetCells.{columnIs}
 use Rattle.allowed.specs.Allowed.{allowedOf}
 use Rattle.clauses.specs.SheetCells.{Place}
 use Rattle.clauses.specs.Sizes.{differ, uneven, sized}

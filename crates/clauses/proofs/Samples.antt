@@ -14,8 +14,9 @@ use Rattle.model.specs.declared.Refusal.the-variants.{InvalidSize, TooManyOutpu
 use Rattle.cells.specs.Plane.{Plane}
 use Rattle.record.specs.Policy.{Text}
 use Rattle.record.specs.Record.{inputTexts, outputTexts, ruleTexts}
-use Rattle.allowed.specs.Readings.{every}
-use Rattle.allowed.specs.SheetCells.{regionAt, columnIs, meetRow, apartFrom}
+use Rattle.cell_tests.specs.Readings.{every}
+use Rattle.cell_tests.specs.SheetCells.{regionAt, columnIs}
+use Rattle.allowed.specs.Apart.{meetRow, apartFrom}
 use Rattle.allowed.specs.Allowed.{allowedTwo, allowedThree, allowedOf}
 use Rattle.clauses.specs.Readings.{along}
 use Rattle.clauses.specs.SheetCells.{placeInRow, placeFrom}

@@ -12,9 +12,9 @@ use Rattle.lists.proofs.AnswerLaws.{then-ok}
 use Rattle.model.specs.declared.Cell.the-variants.{MainDoubleCrossing, HorizontalDoubleCrossing}
 use Rattle.model.specs.declared.Refusal.the-variants.{PlaneMalformed}
 use Rattle.cells.specs.Plane.{Plane}
+use Rattle.cell_tests.specs.Readings.{refuse}
+use Rattle.cell_tests.specs.SheetCells.{widthOf}
 use Rattle.allowed.specs.Allowed.{allowedOf}
-use Rattle.allowed.specs.Readings.{refuse}
-use Rattle.allowed.specs.SheetCells.{widthOf}
 use Rattle.clauses.specs.Clauses.{mainOf, outputsEnd}
 use Rattle.clauses.specs.SheetCells.{Place, placeOf}
 use Rattle.layouts.specs.Layouts.{fineRow, fineRows, layoutOf}

@@ -14,8 +14,8 @@ use Rattle.model.specs.declared.Refusal.{Refusal}
 use Rattle.model.specs.declared.Refusal.the-variants.{NoMainCrossing, PlaneMalformed, InvalidSize}
 use Rattle.cells.specs.Plane.{Plane, planeIn}
 use Rattle.cells.proofs.PlaneLaws.{length-plane}
+use Rattle.cell_tests.specs.SheetCells.{widthOf}
 use Rattle.allowed.specs.Allowed.{allowedOf}
-use Rattle.allowed.specs.SheetCells.{widthOf}
 use Rattle.layouts.specs.Layouts.{fineRow, fineRows, layoutOf}
 use Rattle.layouts.specs.declared.Layout.{Layout}
 use Rattle.layouts.specs.declared.Pass.the-variants.{Clear, Stopped}

@@ -21,7 +21,7 @@ use Rattle.model.specs.declared.Refusal.the-variants.{InvalidSize}
 use Rattle.cells.specs.Plane.{Plane}
 use Rattle.record.specs.Policy.{Text, input, output, rule, Entries}
 use Rattle.record.specs.Record.{inputTexts, outputTexts, ruleTexts}
-use Rattle.allowed.specs.Readings.{refuse}
+use Rattle.cell_tests.specs.Readings.{refuse}
 use Rattle.clauses.specs.SheetCells.{placeOf}
 use Rattle.clauses.specs.Sizes.{differ}
 use Rattle.clauses.specs.Stated.{allowedText, defaultText, inputOf, outputOf, ruleOf, statedBy, clausesOf, clauseTexts}

@@ -13,8 +13,8 @@ use Rattle.model.specs.declared.Cell.the-variants.{MainDoubleCrossing, Horizont
 use Rattle.model.specs.declared.Refusal.the-variants.{NoMainCrossing, PlaneMalformed, NoOutputClause, TooManyOutputRows}
 use Rattle.cells.specs.Plane.{Plane}
 use Rattle.record.specs.Policy.{Text}
-use Rattle.allowed.specs.Readings.{refuse}
-use Rattle.allowed.specs.SheetCells.{widthOf, regionAt}
+use Rattle.cell_tests.specs.Readings.{refuse}
+use Rattle.cell_tests.specs.SheetCells.{widthOf, regionAt}
 use Rattle.allowed.specs.Allowed.{allowedOf}
 use Rattle.clauses.specs.Readings.{along}
 use Rattle.clauses.specs.SheetCells.{Place, placeOf}

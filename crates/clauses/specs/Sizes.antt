@@ -8,7 +8,7 @@ use Rattle.lists.specs.Answer.{_>>=_, _>>_}
 use Rattle.lists.specs.Choose.{choose}
 use Rattle.model.specs.Refusals.{Reading}
 use Rattle.model.specs.declared.Refusal.the-variants.{InvalidSize}
-use Rattle.allowed.specs.Readings.{refuse}
+use Rattle.cell_tests.specs.Readings.{refuse}
 use Rattle.clauses.specs.Clauses.{Found}
 
 abbrev pub differ : ℕ → ℕ → Bool

@@ -8,7 +8,7 @@ use Rattle.lists.specs.Run.{run}
 use Rattle.model.specs.Refusals.{Reading}
 use Rattle.cells.specs.Plane.{Plane}
 use Rattle.record.specs.Policy.{Text}
-use Rattle.allowed.specs.SheetCells.{regionAt}
+use Rattle.cell_tests.specs.SheetCells.{regionAt}
 use Rattle.clauses.specs.Clauses.{present}
 use Rattle.clauses.specs.Stated.{allowedText, defaultText}
 use Rattle.clauses.specs.declared.Shape.{Shape}

@@ -1,5 +1,5 @@
 // The clause rules on an upright sheet: every refusal in its order, and where everything stands.
-use allowed::Test;
+use cell_tests::Test;
 use layouts::LaidOut;
 use layouts::Layout;
 use layouts::Pass;
@@ -9,7 +9,7 @@ ghost use mathlib.Core.Path.{_≡_};
 ghost use Prim.Native.Nat.{_+_, _≤_, _<_};
 ghost use Rattle.model.specs.Limits.{planeRows, planeCells};
 ghost use Rattle.cells.specs.Plane.{planeIn, rowIn, PlaneFits};
-ghost use Rattle.allowed.specs.SheetCells.{widthOf};
+ghost use Rattle.cell_tests.specs.SheetCells.{widthOf};
 ghost use Rattle.layouts.specs.Told.{passIn};
 ghost use Rattle.layouts.specs.declared.Pass.the-variants.{Clear};
 ghost use Rattle.clauses.specs.SheetCells.{placeInRow, placeOf};

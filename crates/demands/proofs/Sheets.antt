@@ -20,9 +20,9 @@ use Rattle.rule_numbers.specs.Numbering.{last, placeBehind, counted, ruleNumber
 use Rattle.placement.specs.Placement.{placementOf}
 use Rattle.turning.specs.Upright.{uprightOf}
 use Rattle.plane.specs.Sheet.{statedSheet}
+use Rattle.cell_tests.specs.Readings.{every}
+use Rattle.cell_tests.specs.SheetCells.{regionAt}
 use Rattle.allowed.specs.Allowed.{allowedOf}
-use Rattle.allowed.specs.Readings.{every}
-use Rattle.allowed.specs.SheetCells.{regionAt}
 use Rattle.clauses.specs.Clauses.{textAt, optionalAt, entriesOf, oneOutput, outputsOf, notesOf, foundFrom}
 use Rattle.clauses.specs.Readings.{along}
 use Rattle.clauses.specs.SheetCells.{placeInRow, placeFrom}

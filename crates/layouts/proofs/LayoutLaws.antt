@@ -9,7 +9,7 @@ use Rattle.model.specs.Refusals.{Reading}
 use Rattle.model.specs.declared.Refusal.{Refusal}
 use Rattle.model.specs.declared.Refusal.the-variants.{NoOutputClause, TooManyOutputRows}
 use Rattle.cells.specs.Plane.{Plane}
-use Rattle.allowed.specs.SheetCells.{columnIs}
+use Rattle.cell_tests.specs.SheetCells.{columnIs}
 use Rattle.layouts.specs.Layouts.{fine, fineRow, oneLayout, namedLayout, labelledLayout, manyLayout, layoutOf}
 
 -- what is read only if a test holds

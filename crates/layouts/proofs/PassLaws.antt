@@ -8,7 +8,7 @@ use Rattle.model.specs.Refusals.{Reading}
 use Rattle.model.specs.declared.Refusal.{Refusal}
 use Rattle.cells.specs.Plane.{Plane, planeIn}
 use Rattle.cells.proofs.PlaneLaws.{length-plane}
-use Rattle.allowed.specs.SheetCells.{regionAt}
+use Rattle.cell_tests.specs.SheetCells.{regionAt}
 use Rattle.layouts.specs.Readings.{pass}
 use Rattle.layouts.specs.Layouts.{fine, fineRow, fineRows}
 

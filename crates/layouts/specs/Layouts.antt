@@ -8,7 +8,7 @@ use Rattle.lists.specs.Choose.{choose}
 use Rattle.model.specs.Refusals.{Reading}
 use Rattle.model.specs.declared.Refusal.the-variants.{NoOutputClause, TooManyOutputRows}
 use Rattle.cells.specs.Plane.{Plane}
-use Rattle.allowed.specs.SheetCells.{regionAt, columnIs}
+use Rattle.cell_tests.specs.SheetCells.{regionAt, columnIs}
 use Rattle.layouts.specs.Readings.{pass}
 use Rattle.layouts.specs.declared.Layout.{Layout}
 

@@ -1,6 +1,6 @@
 // Cells that are all regions, and what the output clauses of an upright sheet have: every refusal in its order.
-use allowed::CellRead;
-use allowed::Test;
+use cell_tests::CellRead;
+use cell_tests::Test;
 use model::Refusal;
 ghost use mathlib.Core.Path.{_≡_};
 ghost use Prim.Native.Nat.{_+_, _≤_};
@@ -21,7 +21,7 @@ pub fn pass_row(plane: &[u32], rows: usize, y: usize, x: usize, n: usize) -> Pas
 {
     let mut i = 0;
     while i < n {
-        match allowed::region_at(plane, rows, y, x + i) {
+        match cell_tests::region_at(plane, rows, y, x + i) {
             CellRead::Number(_) => {}
             CellRead::NotRead(r) => return Pass::Stopped(r),
         }
@@ -64,7 +64,7 @@ fn lay_one(plane: &[u32], rows: usize, x: usize, h: usize) -> LaidOut
     ensures { λ r. ⌜ layoutIn r ≡ oneLayout (planeIn (now (plane .entry)) rows) x h ⌝ }
 {
     if h == 1 {
-        return match allowed::region_at(plane, rows, 0, x) {
+        return match cell_tests::region_at(plane, rows, 0, x) {
             CellRead::Number(_) => LaidOut::As(Layout {
                 labelled: true,
                 named: false,
@@ -74,7 +74,7 @@ fn lay_one(plane: &[u32], rows: usize, x: usize, h: usize) -> LaidOut
         };
     }
     if h == 2 {
-        return match allowed::column_is(plane, rows, false, 0, x) {
+        return match cell_tests::column_is(plane, rows, false, 0, x) {
             Test::Is(t) => LaidOut::As(Layout {
                 labelled: t,
                 named: false,
@@ -113,7 +113,7 @@ fn lay_labelled(plane: &[u32], rows: usize, x: usize, m: usize, valued: bool) ->
     requires { ⌜ PlaneFits (now plane) rows × (x + m ≤ 128) ⌝ }
     ensures { λ r. ⌜ layoutIn r ≡ labelledLayout (planeIn (now (plane .entry)) rows) x m valued ⌝ }
 {
-    match allowed::region_at(plane, rows, 0, x) {
+    match cell_tests::region_at(plane, rows, 0, x) {
         CellRead::Number(_) => {}
         CellRead::NotRead(r) => return LaidOut::NotLaidOut(r),
     }

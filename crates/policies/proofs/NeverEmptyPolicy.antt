@@ -30,9 +30,10 @@ use Rattle.rule_numbers.specs.Numbering.{first, last, placeBehind, numberIn, co
 use Rattle.placement.specs.Placement.{placementOf}
 use Rattle.turning.specs.Upright.{butLast, wide, pivotOf, uprightOf}
 use Rattle.plane.specs.Sheet.{statedSheet}
+use Rattle.cell_tests.specs.Readings.{refuse}
+use Rattle.cell_tests.specs.SheetCells.{widthOf, cellIn, regionAt, columnIs, columnsAre}
 use Rattle.allowed.specs.Allowed.{allowedTwo, allowedThree, allowedOf}
-use Rattle.allowed.specs.Readings.{refuse}
-use Rattle.allowed.specs.SheetCells.{widthOf, cellIn, regionAt, columnIs, columnsAre, Met, twice, once, meetRow, onMet, apartFrom, allApart}
+use Rattle.allowed.specs.Apart.{Met, twice, once, meetRow, onMet, apartFrom, allApart}
 use Rattle.clauses.specs.Clauses.{Found, mainOf, outputsEnd, textAt, optionalAt, entriesOf, oneOutput, manyOutputs, outputsOf, notesOf, foundFrom, foundOf}
 use Rattle.clauses.specs.Readings.{along}
 use Rattle.clauses.specs.SheetCells.{Place, placeOf}

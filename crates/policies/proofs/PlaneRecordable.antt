@@ -19,7 +19,7 @@ use Rattle.placement.specs.Orientation.{orientedOf}
 use Rattle.turning.specs.Upright.{uprightOf}
 use Rattle.plane.specs.Sheet.{Sheet, statedSheet}
 use Rattle.plane.proofs.SomeRules.{some-rules}
-use Rattle.allowed.specs.SheetCells.{widthOf}
+use Rattle.cell_tests.specs.SheetCells.{widthOf}
 use Rattle.clauses.specs.Shape.{checkedShape}
 use Rattle.clauses.specs.declared.Shape.{Shape}
 use Rattle.clauses.proofs.ShapeColumns.{shape-columns}

@@ -16,7 +16,7 @@ use Rattle.record.specs.Record.{bytesOf}
 use Rattle.values.specs.Values.{valuesOf}
 use Rattle.values.proofs.ValueLaws.{split-length}
 use Rattle.values.proofs.DefaultLength.{default-length}
-use Rattle.allowed.specs.SheetCells.{regionAt}
+use Rattle.cell_tests.specs.SheetCells.{regionAt}
 use Rattle.clauses.specs.Clauses.{present}
 use Rattle.clauses.specs.Spelled.{joinRun, readOr, cellText, whole, optional, rowTexts, firstOutput, valuesRow, namesRow, labelText, inputText, valuesText, outputText, noteTexts, entryTexts, spelled}
 use Rattle.clauses.specs.Stated.{allowedText, defaultText}

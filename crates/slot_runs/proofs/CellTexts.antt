@@ -22,8 +22,8 @@ use Rattle.cells.specs.Plane.{cellAt, planeIn}
 use Rattle.cells.specs.Spans.{offsetAt, lengthAt, textIn}
 use Rattle.cells.specs.Held.{Held}
 use Rattle.cells.proofs.SpanLaws.{text-in}
-use Rattle.allowed.specs.SheetCells.{widthOf, regionAt}
-use Rattle.allowed.proofs.CellLaws.{width-in, width-out, cell-in}
+use Rattle.cell_tests.specs.SheetCells.{widthOf, regionAt}
+use Rattle.cell_tests.proofs.CellLaws.{width-in, width-out, cell-in}
 use Rattle.clauses.specs.Spelled.{readOr, cellText}
 
 -- a region that is read stands in a cell of the slice

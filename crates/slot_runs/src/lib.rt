@@ -1,5 +1,5 @@
 // Texts written as slots, one by one and along a row: three numbers each.
-use allowed::CellRead;
+use cell_tests::CellRead;
 use record::ABSENT;
 use record::PART;
 use values::Measured;
@@ -140,7 +140,7 @@ pub fn part_at(
     ensures text { λ r. ⌜ partOf (now (bytes .entry)) r ≡ cellText (textIn (now (bytes .entry)) (now (spans .entry)) count) (planeIn (now (plane .entry)) rows) y x ⌝ }
     ensures inside { λ r. ⌜ PartIn r (now (bytes .entry)) ⌝ }
 {
-    match allowed::region_at(plane, rows, y, x) {
+    match cell_tests::region_at(plane, rows, y, x) {
         CellRead::Number(k) => Part {
             offset: spans[k * 2],
             size: spans[k * 2 + 1],

@@ -2,7 +2,7 @@
 use mathlib.Core.Path.{sym}
 use native.Mathlib.Omega.{arith}
 use borrow.Author.Needs.{needs}
-use Rattle.allowed.proofs.CellLaws.{width-in, width-out}
+use Rattle.cell_tests.proofs.CellLaws.{width-in, width-out}
 use Rattle.clauses.proofs.width.Statement.{statement}
 use Rattle.clauses.proofs.width.Tie as tie
 

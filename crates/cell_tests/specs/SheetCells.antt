@@ -1,19 +1,18 @@
 -- The cells of an upright sheet, as the clause rules read them: `recognize_horizontal_table` and plane.rs of the Rust.
-use mathlib.Core.Bool.{Bool, true, false, not}
-use mathlib.Core.List.{List, [], _∷_}
-use Prim.Native.Nat.{ℕ, zero, suc, _+_}
+use mathlib.Core.Bool.{Bool, not}
+use mathlib.Core.List.{[]}
+use Prim.Native.Nat.{ℕ, _+_}
 use lib.Dec.{eqb, ltb}
 use lib.ListN.{length, getD}
 use Rattle.lists.specs.Answer.{ok, refused, _>>=_}
 use Rattle.lists.specs.Choose.{choose, onSome}
-use Rattle.lists.specs.OneOf.{oneOf}
 use Rattle.model.specs.Cells.{regionOf}
 use Rattle.model.specs.Refusals.{Reading}
 use Rattle.model.specs.declared.Cell.{Cell}
 use Rattle.model.specs.declared.Cell.the-variants.{Region}
 use Rattle.model.specs.declared.Refusal.the-variants.{CellOutOfRange, CellNotRegion}
 use Rattle.cells.specs.Plane.{Plane}
-use Rattle.allowed.specs.Readings.{every}
+use Rattle.cell_tests.specs.Readings.{every}
 
 -- how many cells row y has
 abbrev pub widthOf : Plane → ℕ → ℕ
@@ -38,29 +37,3 @@ columnIs joined P top x = do
 -- so in each of the n columns from x on
 abbrev pub columnsAre : Bool → Plane → ℕ → ℕ → ℕ → Reading Bool
 columnsAre joined P top x n = every (columnIs joined P top) x n
-
--- the regions met so far; or a region was met twice
-pub data Met : Type 0 where
-  twice : Met
-  once : List ℕ → Met
-
--- the n cells of row y from column x on, behind the regions s, up to the first region that was met before
-unfoldable pub meetRow : Plane → ℕ → ℕ → ℕ → List ℕ → Reading Met
-meetRow P y x zero s = ok (once s)
-meetRow P y x (suc n) s = do
-  a ← regionAt P y x
-  choose (oneOf a s) (ok twice) (meetRow P y (suc x) n (a ∷ s))
-
-abbrev pub onMet : Met → (List ℕ → Reading Bool) → Reading Bool
-onMet twice k = ok false
-onMet (once s) k = k s
-
-unfoldable pub apartFrom : Plane → ℕ → ℕ → ℕ → ℕ → List ℕ → Reading Bool
-apartFrom P y zero x n s = ok true
-apartFrom P y (suc rows) x n s = do
-  m ← meetRow P y x n s
-  onMet m (apartFrom P (suc y) rows x n)
-
--- no region stands twice in so many rows from row 0 on, in the n columns from x on; row by row
-abbrev pub allApart : Plane → ℕ → ℕ → ℕ → Reading Bool
-allApart P rows x n = apartFrom P 0 rows x n []

@@ -1,8 +1,8 @@
--- `allowed::column_is` meets its contract.
-use Rattle.allowed.proofs.TestLaws.{column-upper, column-lower, column-same, column-other}
+-- `cell_tests::column_is` meets its contract.
+use Rattle.cell_tests.proofs.TestLaws.{column-upper, column-lower, column-same, column-other}
 use borrow.Author.Needs.{needs}
-use Rattle.allowed.proofs.column_is.Statement.{statement}
-use Rattle.allowed.proofs.column_is.Tie as tie
+use Rattle.cell_tests.proofs.column_is.Statement.{statement}
+use Rattle.cell_tests.proofs.column_is.Tie as tie
 
 region-at-requires : tie.Need-region-at-requires
 region-at-requires c κs = search needs

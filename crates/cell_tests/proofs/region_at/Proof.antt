@@ -1,11 +1,11 @@
--- `allowed::region_at` meets its contract.
+-- `cell_tests::region_at` meets its contract.
 use mathlib.Core.Path.{sym}
 use mathlib.Core.Option.{none, some}
 use native.Mathlib.Omega.{arith}
 use borrow.Author.Needs.{needs}
-use Rattle.allowed.proofs.CellLaws.{region-below, region-right, region-by}
-use Rattle.allowed.proofs.region_at.Statement.{statement}
-use Rattle.allowed.proofs.region_at.Tie as tie
+use Rattle.cell_tests.proofs.CellLaws.{region-below, region-right, region-by}
+use Rattle.cell_tests.proofs.region_at.Statement.{statement}
+use Rattle.cell_tests.proofs.region_at.Tie as tie
 
 returns : tie.Need-returns
 returns c = region-below _ _ _ _ (c .if1 .taken)

@@ -15,7 +15,7 @@ use Rattle.model.specs.declared.Cell.the-variants.{Region}
 use Rattle.model.specs.declared.Refusal.the-variants.{CellOutOfRange, CellNotRegion}
 use Rattle.cells.specs.Plane.{cellAt, cellsIn, rowIn, planeIn}
 use Rattle.cells.proofs.PlaneLaws.{length-cells}
-use Rattle.allowed.specs.SheetCells.{widthOf, cellIn, regionAt}
+use Rattle.cell_tests.specs.SheetCells.{widthOf, cellIn, regionAt}
 
 module _ (d : List ℕ) (rows y x : ℕ) where
   pub row-in : y < rows → getD (planeIn d rows) y [] ≡ rowIn d y

@@ -1,11 +1,11 @@
--- `allowed::columns_are` meets its contract.
+-- `cell_tests::columns_are` meets its contract.
 use Prim.Native.Nat.{_-_}
 use Rattle.cells.specs.Plane.{planeIn}
-use Rattle.allowed.specs.SheetCells.{columnIs}
-use Rattle.allowed.proofs.TestLaws.{Every, every-start, every-out, every-not, every-next, every-end}
+use Rattle.cell_tests.specs.SheetCells.{columnIs}
+use Rattle.cell_tests.proofs.TestLaws.{Every, every-start, every-out, every-not, every-next, every-end}
 use borrow.Author.Needs.{needs}
-use Rattle.allowed.proofs.columns_are.Statement.{statement}
-use Rattle.allowed.proofs.columns_are.Tie as tie
+use Rattle.cell_tests.proofs.columns_are.Statement.{statement}
+use Rattle.cell_tests.proofs.columns_are.Tie as tie
 
 abbrev Inv-loop : tie.InvT-loop
 Inv-loop plane rows joined top x n i₀ i = Every (columnIs joined (planeIn plane rows) top) x n i

@@ -9,8 +9,8 @@ use Rattle.lists.specs.Choose.{choose}
 use Rattle.model.specs.Refusals.{Reading}
 use Rattle.model.specs.declared.Refusal.{Refusal}
 use Rattle.cells.specs.Plane.{Plane}
-use Rattle.allowed.specs.Readings.{every}
-use Rattle.allowed.specs.SheetCells.{regionAt, columnIs}
+use Rattle.cell_tests.specs.Readings.{every}
+use Rattle.cell_tests.specs.SheetCells.{regionAt, columnIs}
 
 as-joined : (t : Bool) → t ≡ choose t true false
 as-joined true = refl

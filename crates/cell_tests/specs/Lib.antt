@@ -1,0 +1,3 @@
+pub mod Readings
+pub mod SheetCells
+pub mod Told
