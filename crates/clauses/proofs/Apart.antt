@@ -23,7 +23,8 @@ use Rattle.allowed.specs.Allowed.{allowedOf}
 use Rattle.clauses.specs.Readings.{along}
 use Rattle.clauses.specs.SheetCells.{Place}
 use Rattle.clauses.specs.Clauses.{mainOf, outputsEnd, present, OutputTexts, NoteTexts, Found, textAt, optionalAt, entriesOf, oneOutput, manyOutputs, outputsOf, notesOf, foundFrom}
-use Rattle.layouts.specs.Layouts.{fine, fineRow, fineRows, oneLayout, namedLayout, labelledLayout, manyLayout, layoutOf}
+use Rattle.passes.specs.Passes.{fine, fineRow, fineRows}
+use Rattle.layouts.specs.Layouts.{oneLayout, namedLayout, labelledLayout, manyLayout, layoutOf}
 use Rattle.clauses.specs.Shape.{notesAt, inputsFine, clausesAt, shapeOf}
 use Rattle.clauses.specs.Spelled.{readOr, cellText, optional}
 use Rattle.layouts.specs.declared.Layout.{Layout}

@@ -22,7 +22,8 @@ use Rattle.allowed.specs.Allowed.{allowedOf}
 use Rattle.clauses.specs.SheetCells.{Place}
 use Rattle.clauses.specs.Sizes.{differ, uneven, sized}
 use Rattle.clauses.specs.Clauses.{mainOf, outputsEnd}
-use Rattle.layouts.specs.Layouts.{fine, fineRow, fineRows, oneLayout, namedLayout, labelledLayout, manyLayout, layoutOf}
+use Rattle.passes.specs.Passes.{fine, fineRow, fineRows}
+use Rattle.layouts.specs.Layouts.{oneLayout, namedLayout, labelledLayout, manyLayout, layoutOf}
 use Rattle.clauses.specs.Shape.{inputsFine, notesAt, clausesAt, shapeOf, sizesOf}
 use Rattle.clauses.specs.Spelled.{cellText, optional, firstOutput, valuesRow, namesRow}
 use Rattle.layouts.specs.declared.Layout.{Layout}

@@ -6,7 +6,7 @@ use Rattle.lists.specs.Answer.{ok, refused, _>>=_}
 use Rattle.lists.specs.Choose.{choose}
 use Rattle.lists.specs.Run.{run}
 use Rattle.model.specs.Refusals.{Reading}
-use Rattle.layouts.specs.Readings.{pass}
+use Rattle.passes.specs.Readings.{pass}
 use Rattle.clauses.specs.Readings.{along}
 
 -- a refuses what c refuses, and answers v of what c answers

@@ -17,7 +17,8 @@ use Rattle.cell_tests.specs.SheetCells.{widthOf}
 use Rattle.allowed.specs.Allowed.{allowedOf}
 use Rattle.clauses.specs.Clauses.{mainOf, outputsEnd}
 use Rattle.clauses.specs.SheetCells.{Place, placeOf}
-use Rattle.layouts.specs.Layouts.{fineRow, fineRows, layoutOf}
+use Rattle.passes.specs.Passes.{fineRow, fineRows}
+use Rattle.layouts.specs.Layouts.{layoutOf}
 use Rattle.clauses.specs.Shape.{notesAt, inputsFine, clausesAt, shapeOf, sizesOf, checkedShape}
 use Rattle.clauses.specs.declared.Notes.{Notes}
 use Rattle.clauses.specs.declared.Shape.{Shape}

@@ -16,9 +16,10 @@ use Rattle.cells.specs.Plane.{Plane, planeIn}
 use Rattle.cells.proofs.PlaneLaws.{length-plane}
 use Rattle.cell_tests.specs.SheetCells.{widthOf}
 use Rattle.allowed.specs.Allowed.{allowedOf}
-use Rattle.layouts.specs.Layouts.{fineRow, fineRows, layoutOf}
+use Rattle.passes.specs.Passes.{fineRow, fineRows}
+use Rattle.passes.specs.declared.Pass.the-variants.{Clear, Stopped}
+use Rattle.layouts.specs.Layouts.{layoutOf}
 use Rattle.layouts.specs.declared.Layout.{Layout}
-use Rattle.layouts.specs.declared.Pass.the-variants.{Clear, Stopped}
 use Rattle.clauses.specs.Clauses.{outputsEnd}
 use Rattle.clauses.specs.SheetCells.{Place, placeOf}
 use Rattle.clauses.specs.Shape.{notesAt, inputsFine, clausesAt, shapeOf, sizesOf, checkedShape}

@@ -14,7 +14,8 @@ use Rattle.cells.specs.Plane.{Plane}
 use Rattle.cell_tests.specs.Readings.{refuse}
 use Rattle.cell_tests.specs.SheetCells.{widthOf}
 use Rattle.allowed.specs.Allowed.{allowedOf}
-use Rattle.layouts.specs.Layouts.{fineRow, fineRows, layoutOf}
+use Rattle.passes.specs.Passes.{fineRow, fineRows}
+use Rattle.layouts.specs.Layouts.{layoutOf}
 use Rattle.clauses.specs.Clauses.{mainOf, outputsEnd}
 use Rattle.clauses.specs.SheetCells.{Place, placeOf}
 use Rattle.clauses.specs.Sizes.{differ}

@@ -2,16 +2,16 @@
 use cell_tests::Test;
 use layouts::LaidOut;
 use layouts::Layout;
-use layouts::Pass;
 use model::Cell;
 use model::Refusal;
+use passes::Pass;
 ghost use mathlib.Core.Path.{_≡_};
 ghost use Prim.Native.Nat.{_+_, _≤_, _<_};
 ghost use Rattle.model.specs.Limits.{planeRows, planeCells};
 ghost use Rattle.cells.specs.Plane.{planeIn, rowIn, PlaneFits};
 ghost use Rattle.cell_tests.specs.SheetCells.{widthOf};
-ghost use Rattle.layouts.specs.Told.{passIn};
-ghost use Rattle.layouts.specs.declared.Pass.the-variants.{Clear};
+ghost use Rattle.passes.specs.Told.{passIn};
+ghost use Rattle.passes.specs.declared.Pass.the-variants.{Clear};
 ghost use Rattle.clauses.specs.SheetCells.{placeInRow, placeOf};
 ghost use Rattle.clauses.specs.Clauses.{outputsEnd};
 ghost use Rattle.clauses.specs.Shape.{notesAt, inputsFine, clausesAt, shapeOf, sizesOf, checkedShape};
@@ -91,11 +91,11 @@ fn notes_behind(plane: &[u32], rows: usize, y: usize, x: usize) -> Noted
         return Noted::NotNoted(Refusal::PlaneMalformed);
     }
     let k = w - (x + 1);
-    match layouts::pass_row(plane, rows, 0, x + 1, k) {
+    match passes::pass_row(plane, rows, 0, x + 1, k) {
         Pass::Clear => {}
         Pass::Stopped(r) => return Noted::NotNoted(r),
     }
-    match layouts::pass_rows(plane, rows, y + 1, x + 1, k) {
+    match passes::pass_rows(plane, rows, y + 1, x + 1, k) {
         Pass::Clear => {}
         Pass::Stopped(r) => return Noted::NotNoted(r),
     }
@@ -142,17 +142,17 @@ fn pass_inputs(plane: &[u32], rows: usize, n: usize, h: usize, values: bool) -> 
     requires { ⌜ PlaneFits (now plane) rows × (n ≤ planeCells) × (1 ≤ h) × (h < rows) ⌝ }
     ensures { λ r. ⌜ passIn r ≡ inputsFine (planeIn (now (plane .entry)) rows) n h values ⌝ }
 {
-    match layouts::pass_row(plane, rows, 0, 0, n) {
+    match passes::pass_row(plane, rows, 0, 0, n) {
         Pass::Clear => {}
         Pass::Stopped(r) => return Pass::Stopped(r),
     }
     if values {
-        match layouts::pass_row(plane, rows, h - 1, 0, n) {
+        match passes::pass_row(plane, rows, h - 1, 0, n) {
             Pass::Clear => {}
             Pass::Stopped(r) => return Pass::Stopped(r),
         }
     }
-    layouts::pass_rows(plane, rows, h + 1, 0, n)
+    passes::pass_rows(plane, rows, h + 1, 0, n)
 }
 
 // The shape of n inputs and m outputs under h clause rows.
@@ -173,7 +173,7 @@ fn clauses_at(plane: &[u32], rows: usize, n: usize, m: usize, h: usize, notes: S
         LaidOut::As(l) => l,
         LaidOut::NotLaidOut(r) => return Shaped::NotShaped(r),
     };
-    match layouts::pass_rows(plane, rows, h + 1, n + 1, m) {
+    match passes::pass_rows(plane, rows, h + 1, n + 1, m) {
         Pass::Clear => {}
         Pass::Stopped(r) => return Shaped::NotShaped(r),
     }

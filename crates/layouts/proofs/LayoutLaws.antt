@@ -10,7 +10,8 @@ use Rattle.model.specs.declared.Refusal.{Refusal}
 use Rattle.model.specs.declared.Refusal.the-variants.{NoOutputClause, TooManyOutputRows}
 use Rattle.cells.specs.Plane.{Plane}
 use Rattle.cell_tests.specs.SheetCells.{columnIs}
-use Rattle.layouts.specs.Layouts.{fine, fineRow, oneLayout, namedLayout, labelledLayout, manyLayout, layoutOf}
+use Rattle.passes.specs.Passes.{fine, fineRow}
+use Rattle.layouts.specs.Layouts.{oneLayout, namedLayout, labelledLayout, manyLayout, layoutOf}
 
 -- what is read only if a test holds
 pub read-if : {t : Bool} {m : Reading (Unit {0})} (a : Reading (Unit {0})) → t ≡ true → a ≡ m → a ≡ choose t m (ok tt)

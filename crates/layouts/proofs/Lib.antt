@@ -1,3 +1,2 @@
--- Laws of cells that are read in turn, and of output clauses.
-mod PassLaws
+-- Laws of output clauses.
 pub mod LayoutLaws

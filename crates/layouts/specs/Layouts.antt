@@ -1,37 +1,22 @@
--- What the output clauses of a sheet have, and cells that are all regions: every refusal in its order.
+-- What the output clauses of a sheet have: every refusal in its order.
 use mathlib.Core.Bool.{Bool, true, false}
-use Prim.Native.Nat.{ℕ, _-_}
+use Prim.Native.Nat.{ℕ}
 use lib.Dec.{eqb}
-use lib.ListN.{length}
 use Rattle.lists.specs.Answer.{ok, refused, _>>=_, _>>_}
 use Rattle.lists.specs.Choose.{choose}
 use Rattle.model.specs.Refusals.{Reading}
 use Rattle.model.specs.declared.Refusal.the-variants.{NoOutputClause, TooManyOutputRows}
 use Rattle.cells.specs.Plane.{Plane}
-use Rattle.cell_tests.specs.SheetCells.{regionAt, columnIs}
-use Rattle.layouts.specs.Readings.{pass}
+use Rattle.cell_tests.specs.SheetCells.{columnIs}
+use Rattle.passes.specs.Passes.{fine, fineRow}
 use Rattle.layouts.specs.declared.Layout.{Layout}
 
 module _ (P : Plane) where
-  -- a cell is a region
-  unfoldable pub fine : ℕ → ℕ → Reading (Unit {0})
-  fine y x = do
-    regionAt P y x
-    ok tt
-
-  -- so are the n cells of row y from column x on
-  abbrev pub fineRow : ℕ → ℕ → ℕ → Reading (Unit {0})
-  fineRow y x n = pass (fine y) x n
-
-  -- and those of each row from y on
-  abbrev pub fineRows : ℕ → ℕ → ℕ → Reading (Unit {0})
-  fineRows y x n = pass (λ k. fineRow k x n) y (length P - y)
-
   -- what one output has under h clause rows
   unfoldable pub oneLayout : ℕ → ℕ → Reading Layout
   oneLayout x h =
       choose (eqb h 1) (do
-        fine 0 x
+        fine P 0 x
         ok (record { labelled = true; named = false; valued = false }))
       (choose (eqb h 2) (do
         apart ← columnIs false P 0 x
@@ -41,16 +26,16 @@ module _ (P : Plane) where
   -- component names in row 0 and, if valued, allowed values in row 1
   unfoldable pub namedLayout : ℕ → ℕ → Bool → Reading Layout
   namedLayout x m valued = do
-    fineRow 0 x m
-    choose valued (fineRow 1 x m) (ok tt)
+    fineRow P 0 x m
+    choose valued (fineRow P 1 x m) (ok tt)
     ok (record { labelled = false; named = true; valued = valued })
 
   -- a label in row 0, component names in row 1 and, if valued, allowed values in row 2
   unfoldable pub labelledLayout : ℕ → ℕ → Bool → Reading Layout
   labelledLayout x m valued = do
-    fine 0 x
-    fineRow 1 x m
-    choose valued (fineRow 2 x m) (ok tt)
+    fine P 0 x
+    fineRow P 1 x m
+    choose valued (fineRow P 2 x m) (ok tt)
     ok (record { labelled = true; named = true; valued = valued })
 
   -- what m outputs have

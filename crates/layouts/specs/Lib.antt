@@ -1,3 +1,2 @@
-pub mod Readings
 pub mod Layouts
 pub mod Told

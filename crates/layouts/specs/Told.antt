@@ -1,15 +1,9 @@
 -- What the functions of the crate answer.
 use Rattle.lists.specs.Answer.{ok, refused}
 use Rattle.model.specs.Refusals.{Reading}
-use Rattle.layouts.specs.declared.Pass.{Pass}
-use Rattle.layouts.specs.declared.Pass.the-variants.{Clear, Stopped}
 use Rattle.layouts.specs.declared.Layout.{Layout}
 use Rattle.layouts.specs.declared.LaidOut.{LaidOut}
 use Rattle.layouts.specs.declared.LaidOut.the-variants.{As, NotLaidOut}
-
-abbrev pub passIn : Pass → Reading (Unit {0})
-passIn Clear = ok tt
-passIn (Stopped r) = refused r
 
 abbrev pub layoutIn : LaidOut → Reading Layout
 layoutIn (As l) = ok l

@@ -1,50 +1,13 @@
-// Cells that are all regions, and what the output clauses of an upright sheet have: every refusal in its order.
+// What the output clauses of an upright sheet have: every refusal in its order.
 use cell_tests::CellRead;
 use cell_tests::Test;
 use model::Refusal;
+use passes::Pass;
 ghost use mathlib.Core.Path.{_≡_};
 ghost use Prim.Native.Nat.{_+_, _≤_};
 ghost use Rattle.cells.specs.Plane.{planeIn, PlaneFits};
-ghost use Rattle.layouts.specs.Layouts.{fineRow, fineRows, oneLayout, namedLayout, labelledLayout, manyLayout, layoutOf};
-ghost use Rattle.layouts.specs.Told.{passIn, layoutIn};
-
-// Cells are regions, or why not.
-pub enum Pass {
-    Clear,
-    Stopped(Refusal),
-}
-
-// The n cells of row y from column x on.
-pub fn pass_row(plane: &[u32], rows: usize, y: usize, x: usize, n: usize) -> Pass
-    requires { ⌜ PlaneFits (now plane) rows × (x + n ≤ 128) ⌝ }
-    ensures { λ r. ⌜ passIn r ≡ fineRow (planeIn (now (plane .entry)) rows) y x n ⌝ }
-{
-    let mut i = 0;
-    while i < n {
-        match cell_tests::region_at(plane, rows, y, x + i) {
-            CellRead::Number(_) => {}
-            CellRead::NotRead(r) => return Pass::Stopped(r),
-        }
-        i += 1;
-    }
-    Pass::Clear
-}
-
-// The n cells from column x on of each row from y on, row by row.
-pub fn pass_rows(plane: &[u32], rows: usize, y: usize, x: usize, n: usize) -> Pass
-    requires { ⌜ PlaneFits (now plane) rows × (x + n ≤ 128) × (y ≤ 128) ⌝ }
-    ensures { λ r. ⌜ passIn r ≡ fineRows (planeIn (now (plane .entry)) rows) y x n ⌝ }
-{
-    let mut k = y;
-    while k < rows {
-        match pass_row(plane, rows, k, x, n) {
-            Pass::Clear => {}
-            Pass::Stopped(r) => return Pass::Stopped(r),
-        }
-        k += 1;
-    }
-    Pass::Clear
-}
+ghost use Rattle.layouts.specs.Layouts.{oneLayout, namedLayout, labelledLayout, manyLayout, layoutOf};
+ghost use Rattle.layouts.specs.Told.{layoutIn};
 
 // What the output clauses have.
 pub struct Layout {
@@ -91,12 +54,12 @@ fn lay_named(plane: &[u32], rows: usize, x: usize, m: usize, valued: bool) -> La
     requires { ⌜ PlaneFits (now plane) rows × (x + m ≤ 128) ⌝ }
     ensures { λ r. ⌜ layoutIn r ≡ namedLayout (planeIn (now (plane .entry)) rows) x m valued ⌝ }
 {
-    match pass_row(plane, rows, 0, x, m) {
+    match passes::pass_row(plane, rows, 0, x, m) {
         Pass::Clear => {}
         Pass::Stopped(r) => return LaidOut::NotLaidOut(r),
     }
     if valued {
-        match pass_row(plane, rows, 1, x, m) {
+        match passes::pass_row(plane, rows, 1, x, m) {
             Pass::Clear => {}
             Pass::Stopped(r) => return LaidOut::NotLaidOut(r),
         }
@@ -117,12 +80,12 @@ fn lay_labelled(plane: &[u32], rows: usize, x: usize, m: usize, valued: bool) ->
         CellRead::Number(_) => {}
         CellRead::NotRead(r) => return LaidOut::NotLaidOut(r),
     }
-    match pass_row(plane, rows, 1, x, m) {
+    match passes::pass_row(plane, rows, 1, x, m) {
         Pass::Clear => {}
         Pass::Stopped(r) => return LaidOut::NotLaidOut(r),
     }
     if valued {
-        match pass_row(plane, rows, 2, x, m) {
+        match passes::pass_row(plane, rows, 2, x, m) {
             Pass::Clear => {}
             Pass::Stopped(r) => return LaidOut::NotLaidOut(r),
         }

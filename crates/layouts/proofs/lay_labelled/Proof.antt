@@ -1,6 +1,6 @@
 -- `layouts::lay_labelled` meets its contract.
 use borrow.Author.Needs.{needs}
-use Rattle.layouts.proofs.PassLaws.{fine-ok, fine-not}
+use Rattle.passes.proofs.PassLaws.{fine-ok, fine-not}
 use Rattle.layouts.proofs.LayoutLaws.{read-if, read-not, label-stop, labelled-names, labelled-values, labelled-as}
 use Rattle.layouts.proofs.lay_labelled.Statement.{statement}
 use Rattle.layouts.proofs.lay_labelled.Tie as tie

@@ -1,6 +1,6 @@
 -- `layouts::lay_one` meets its contract.
 use borrow.Author.Needs.{needs}
-use Rattle.layouts.proofs.PassLaws.{fine-ok, fine-not}
+use Rattle.passes.proofs.PassLaws.{fine-ok, fine-not}
 use Rattle.layouts.proofs.LayoutLaws.{one-row, one-row-stop, two-rows, two-rows-stop, more-rows}
 use Rattle.layouts.proofs.lay_one.Statement.{statement}
 use Rattle.layouts.proofs.lay_one.Tie as tie

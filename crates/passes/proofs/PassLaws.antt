@@ -9,8 +9,8 @@ use Rattle.model.specs.declared.Refusal.{Refusal}
 use Rattle.cells.specs.Plane.{Plane, planeIn}
 use Rattle.cells.proofs.PlaneLaws.{length-plane}
 use Rattle.cell_tests.specs.SheetCells.{regionAt}
-use Rattle.layouts.specs.Readings.{pass}
-use Rattle.layouts.specs.Layouts.{fine, fineRow, fineRows}
+use Rattle.passes.specs.Readings.{pass}
+use Rattle.passes.specs.Passes.{fine, fineRow, fineRows}
 
 module _ (P : Plane) (y x : ℕ) where
   pub fine-ok : {k : ℕ} → ok k ≡ regionAt P y x → ok tt ≡ fine P y x

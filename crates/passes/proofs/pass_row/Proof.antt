@@ -1,12 +1,12 @@
--- `layouts::pass_row` meets its contract.
+-- `passes::pass_row` meets its contract.
 use Prim.Native.Nat.{_+_, _-_}
 use native.Mathlib.Omega.{arith}
 use borrow.Author.Needs.{needs}
 use Rattle.cells.specs.Plane.{planeIn}
-use Rattle.layouts.specs.Layouts.{fine}
-use Rattle.layouts.proofs.PassLaws.{Passed, fine-ok, fine-not, pass-start, pass-end, pass-stop, pass-next}
-use Rattle.layouts.proofs.pass_row.Statement.{statement}
-use Rattle.layouts.proofs.pass_row.Tie as tie
+use Rattle.passes.specs.Passes.{fine}
+use Rattle.passes.proofs.PassLaws.{Passed, fine-ok, fine-not, pass-start, pass-end, pass-stop, pass-next}
+use Rattle.passes.proofs.pass_row.Statement.{statement}
+use Rattle.passes.proofs.pass_row.Tie as tie
 
 abbrev Inv-loop : tie.InvT-loop
 Inv-loop plane rows y x n i₀ i = Passed (fine (planeIn plane rows) y) x n (x + i)

@@ -1,13 +1,13 @@
--- `layouts::pass_rows` meets its contract.
+-- `passes::pass_rows` meets its contract.
 use mathlib.Core.Path.{refl, _∙_}
 use Prim.Native.Nat.{_-_}
 use native.Mathlib.Omega.{arith}
 use borrow.Author.Needs.{needs}
 use Rattle.cells.specs.Plane.{planeIn}
-use Rattle.layouts.specs.Layouts.{fineRow}
-use Rattle.layouts.proofs.PassLaws.{Passed, fine-rows, pass-start, pass-end, pass-stop, pass-next}
-use Rattle.layouts.proofs.pass_rows.Statement.{statement}
-use Rattle.layouts.proofs.pass_rows.Tie as tie
+use Rattle.passes.specs.Passes.{fineRow}
+use Rattle.passes.proofs.PassLaws.{Passed, fine-rows, pass-start, pass-end, pass-stop, pass-next}
+use Rattle.passes.proofs.pass_rows.Statement.{statement}
+use Rattle.passes.proofs.pass_rows.Tie as tie
 
 abbrev Inv-loop : tie.InvT-loop
 Inv-loop plane rows y x n k₀ k = Passed (λ j. fineRow (planeIn plane rows) j x n) y (rows - y) k

@@ -1,0 +1,2 @@
+-- Laws of cells that are read in turn.
+pub mod PassLaws
