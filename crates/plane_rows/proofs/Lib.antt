@@ -1,3 +1,2 @@
--- Laws of cells and line rows that are added to a plane.
-pub mod CellLaws
+-- Laws of line rows that are added to a plane.
 pub mod LineLaws

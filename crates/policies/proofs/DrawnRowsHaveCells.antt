@@ -24,7 +24,7 @@ use Rattle.outline.proofs.InsideLaws.{Inside, outline-inside}
 use Rattle.regions.specs.Regions.{Finder, isCorner}
 use Rattle.sheet_rows.specs.Rows.{rowsAt, widest}
 use Rattle.scan.specs.Rows.{blank, flat}
-use Rattle.plane_rows.specs.Rows.{isAt}
+use Rattle.plane_cells.specs.Row.{isAt}
 use Rattle.policies.proofs.PlaneHasRows.{plane-has-rows}
 use Rattle.policies.proofs.RowsHaveCells.{HasCells, rows-have-cells}
 use Rattle.walks.specs.Frame.{FrameFinder}

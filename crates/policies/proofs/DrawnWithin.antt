@@ -27,7 +27,8 @@ use Rattle.outline.specs.declared.Outline.{Outline}
 use Rattle.regions.specs.Regions.{Finder, regionsOf}
 use Rattle.lookup.specs.Lookup.{regionOf}
 use Rattle.sheet_rows.specs.Rows.{widest}
-use Rattle.plane_rows.specs.Rows.{Row, Rows, isAt, outputLine, annotationLine, addLine, fitting, withCell}
+use Rattle.plane_cells.specs.Row.{Row, isAt, fitting, withCell}
+use Rattle.plane_rows.specs.Rows.{Rows, outputLine, annotationLine, addLine}
 use Rattle.step.specs.PlaneStep.{cornersIn, addCell, rowBy, addRow, addFrames, addGridRow, noRows, rowsBy, planeBy}
 use Rattle.texts.specs.RegionText.{textOf, packed, textsOf}
 use Rattle.texts.proofs.TextsLaws.{texts-are, texts-fit}

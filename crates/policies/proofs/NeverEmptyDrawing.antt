@@ -25,7 +25,8 @@ use Rattle.regions.specs.Regions.{Finder, cornersOf, addRegion, regionsBy}
 use Rattle.lookup.specs.Lookup.{regionFrom, regionOf}
 use Rattle.sheet_rows.specs.Rows.{rowsAt, widest}
 use Rattle.scan.specs.Canvas.{fits, sizeOf}
-use Rattle.plane_rows.specs.Rows.{Row, Rows, isAt, outputLine, annotationLine, addLine, fitting, withCell}
+use Rattle.plane_cells.specs.Row.{Row, isAt, fitting, withCell}
+use Rattle.plane_rows.specs.Rows.{Rows, outputLine, annotationLine, addLine}
 use Rattle.step.specs.PlaneStep.{cornersIn, addCell, rowBy, addRow, addFrames, addGridRow, noRows, rowsBy, planeBy}
 use Rattle.texts.specs.RegionText.{textOf, packed, textsOf}
 use Rattle.utf8.specs.Utf8.{checked, onText}

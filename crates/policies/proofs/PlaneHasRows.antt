@@ -21,7 +21,8 @@ use Rattle.model.specs.declared.Refusal.the-variants.{OverLimit}
 use Rattle.cells.specs.Plane.{Plane}
 use Rattle.outline.specs.declared.Outline.{Outline}
 use Rattle.regions.specs.Regions.{Finder}
-use Rattle.plane_rows.specs.Rows.{Row, Rows, isAt, outputLine, annotationLine, addLine}
+use Rattle.plane_cells.specs.Row.{Row, isAt}
+use Rattle.plane_rows.specs.Rows.{Rows, outputLine, annotationLine, addLine}
 use Rattle.step.specs.PlaneStep.{rowBy, addRow, addFrames, addGridRow, noRows, rowsBy, planeBy}
 
 -- a loop over the numbers at which h holds: what each turn takes one number on, the loop takes from its first number to its end

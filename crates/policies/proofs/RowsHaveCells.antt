@@ -27,7 +27,8 @@ use Rattle.cells.specs.Plane.{Plane}
 use Rattle.outline.specs.declared.Outline.{Outline}
 use Rattle.regions.specs.Regions.{Finder, isCorner}
 use Rattle.lookup.specs.Lookup.{regionOf}
-use Rattle.plane_rows.specs.Rows.{Row, Rows, isAt, outputLine, annotationLine, addLine, fitting, outputBefore, annotationBefore, withCell}
+use Rattle.plane_cells.specs.Row.{Row, isAt, fitting, outputBefore, annotationBefore, withCell}
+use Rattle.plane_rows.specs.Rows.{Rows, outputLine, annotationLine, addLine}
 use Rattle.step.specs.PlaneStep.{addCell, rowBy, addRow, addFrames, addGridRow, noRows, rowsBy, planeBy}
 use Rattle.policies.proofs.PlaneHasRows.{each-through}
 use Rattle.step.proofs.RegionsAmong.{fitted}

@@ -13,12 +13,14 @@ use Rattle.cells.specs.Plane.{cellsIn, planeIn, KeptBefore}
 use Rattle.cells.proofs.PlaneLaws.{length-cells, length-plane, kept-plane}
 use Rattle.outline.specs.declared.Outline.{Outline}
 use Rattle.regions.specs.Regions.{Finder}
-use Rattle.plane_rows.specs.Made.{rowMade, rowsOf, Fits}
-use Rattle.plane_rows.specs.Rows.{Row, Rows}
+use Rattle.plane_cells.specs.Made.{rowMade}
+use Rattle.plane_cells.specs.Row.{Row}
+use Rattle.plane_cells.specs.declared.RowMade.{RowMade}
+use Rattle.plane_cells.specs.declared.RowMade.the-variants.{Cells, NoCells}
+use Rattle.plane_cells.specs.declared.RowSofar.{RowSofar}
+use Rattle.plane_rows.specs.Made.{rowsOf, Fits}
+use Rattle.plane_rows.specs.Rows.{Rows}
 use Rattle.plane_rows.specs.declared.PlaneSofar.{PlaneSofar}
-use Rattle.plane_rows.specs.declared.RowMade.{RowMade}
-use Rattle.plane_rows.specs.declared.RowMade.the-variants.{Cells, NoCells}
-use Rattle.plane_rows.specs.declared.RowSofar.{RowSofar}
 use Rattle.step.specs.PlaneStep.{rowBy, addRow, addFrames}
 
 -- the row of the frames, as the slice d1 has it

@@ -25,7 +25,8 @@ use Rattle.outline.specs.declared.Outline.{Outline}
 use Rattle.regions.specs.Regions.{Finder}
 use Rattle.lookup.specs.Lookup.{regionOf}
 use Rattle.lookup.proofs.FirstLaws.{region-number}
-use Rattle.plane_rows.specs.Rows.{Row, Rows, isAt, outputLine, annotationLine, addLine, fitting, outputBefore, annotationBefore, withCell}
+use Rattle.plane_cells.specs.Row.{Row, isAt, fitting, outputBefore, annotationBefore, withCell}
+use Rattle.plane_rows.specs.Rows.{Rows, outputLine, annotationLine, addLine}
 use Rattle.step.specs.PlaneStep.{cornersIn, addCell, rowBy, addRow, addFrames, addGridRow, noRows, rowsBy, planeBy}
 
 no-region : {A : Type 0} → _≡_ {A = ℕ} 0 1 → A

@@ -26,11 +26,11 @@ use Rattle.lookup.specs.Lookup.{regionOf, firstIn, numberOf, Numbered}
 use Rattle.lookup.proofs.FirstLaws.{region-first}
 use Rattle.walks.specs.Frame.{frameOf}
 use Rattle.walks.specs.Kinds.{grid}
-use Rattle.plane_rows.specs.Made.{rowOf, rowMade, RowFit, RowFits}
-use Rattle.plane_rows.specs.Rows.{Row, fitting, withCell}
-use Rattle.plane_rows.specs.declared.RowMade.{RowMade}
-use Rattle.plane_rows.specs.declared.RowMade.the-variants.{Cells, NoCells}
-use Rattle.plane_rows.specs.declared.RowSofar.{RowSofar}
+use Rattle.plane_cells.specs.Made.{rowOf, rowMade, RowFit, RowFits}
+use Rattle.plane_cells.specs.Row.{Row, fitting, withCell}
+use Rattle.plane_cells.specs.declared.RowMade.{RowMade}
+use Rattle.plane_cells.specs.declared.RowMade.the-variants.{Cells, NoCells}
+use Rattle.plane_cells.specs.declared.RowSofar.{RowSofar}
 use Rattle.step.specs.Made.{noRegion, Over}
 use Rattle.step.specs.PlaneStep.{addCell, rowBy}
 

@@ -22,8 +22,9 @@ use Rattle.outline.specs.declared.Outline.{Outline}
 use Rattle.regions.specs.Regions.{Finder}
 use Rattle.walks.specs.Frame.{frameOf}
 use Rattle.walks.specs.Kinds.{grid}
+use Rattle.plane_cells.specs.Row.{isAt}
 use Rattle.plane_rows.specs.Made.{rowsOf, rowsMade, Fits, RowsFit, lineCell}
-use Rattle.plane_rows.specs.Rows.{Rows, isAt, annotationLine, addLine}
+use Rattle.plane_rows.specs.Rows.{Rows, annotationLine, addLine}
 use Rattle.plane_rows.specs.declared.PlaneSofar.{PlaneSofar}
 use Rattle.plane_rows.specs.declared.RowsMade.{RowsMade}
 use Rattle.plane_rows.specs.declared.RowsMade.the-variants.{Sofar, NoRows}

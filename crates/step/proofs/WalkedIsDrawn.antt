@@ -21,7 +21,8 @@ use Rattle.walks.specs.Kinds.{grid}
 use Rattle.walks.specs.Sides.{bySides}
 use Rattle.walks.proofs.FrameLaws.{grid-sound}
 use Rattle.walks.proofs.SidesLaws.{walks-sides, sides-walks}
-use Rattle.plane_rows.specs.Rows.{Row, Rows, isAt, outputLine, annotationLine, addLine, fitting, withCell}
+use Rattle.plane_cells.specs.Row.{Row, isAt, fitting, withCell}
+use Rattle.plane_rows.specs.Rows.{Rows, outputLine, annotationLine, addLine}
 use Rattle.step.specs.PlaneStep.{cornersIn, addCell, rowBy, addRow, addFrames, addGridRow, noRows, rowsBy, planeBy}
 
 -- a finder that answers whatever another answers makes its plane

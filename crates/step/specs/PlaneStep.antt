@@ -13,7 +13,8 @@ use Rattle.cells.specs.Plane.{Plane}
 use Rattle.lookup.specs.Lookup.{regionOf}
 use Rattle.outline.specs.declared.Crossing.the-variants.{Nowhere}
 use Rattle.outline.specs.declared.Outline.{Outline}
-use Rattle.plane_rows.specs.Rows.{Row, Rows, isAt, outputLine, annotationLine, addLine, fitting, withCell}
+use Rattle.plane_cells.specs.Row.{Row, isAt, fitting, withCell}
+use Rattle.plane_rows.specs.Rows.{Rows, outputLine, annotationLine, addLine}
 use Rattle.regions.specs.Regions.{Finder, isCorner}
 use Rattle.walks.specs.Frame.{frameOf}
 use Rattle.walks.specs.Kinds.{grid}

@@ -2,9 +2,9 @@
 use model::Refusal;
 use outline::Crossing;
 use outline::Outline;
+use plane_cells::RowMade;
+use plane_cells::RowSofar;
 use plane_rows::PlaneSofar;
-use plane_rows::RowMade;
-use plane_rows::RowSofar;
 use plane_rows::RowsMade;
 use walks::Framed;
 ghost use mathlib.Core.Bool.{true};
@@ -20,7 +20,8 @@ ghost use Rattle.rects.specs.Rects.{rectsOf};
 ghost use Rattle.regions.specs.Regions.{isCorner};
 ghost use Rattle.walks.specs.Frame.{frameOf, Place};
 ghost use Rattle.walks.specs.Kinds.{grid};
-ghost use Rattle.plane_rows.specs.Made.{rowOf, rowMade, RowFit, RowFits, rowsOf, rowsMade, Fits, RowsFit};
+ghost use Rattle.plane_cells.specs.Made.{rowOf, rowMade, RowFit, RowFits};
+ghost use Rattle.plane_rows.specs.Made.{rowsOf, rowsMade, Fits, RowsFit};
 ghost use Rattle.step.specs.PlaneStep.{addCell, rowBy, addFrames, addGridRow, planeOf};
 ghost use Rattle.step.specs.Made.{noRegion, planeMade, MadeFits, StepRoom, NumberRoom, Over};
 
@@ -56,7 +57,7 @@ fn add_frame(
 {
     let k = found[y * w + x] as usize;
     if k < count {
-        return plane_rows::add_cells(o, x, k, plane, row, s);
+        return plane_cells::add_cells(o, x, k, plane, row, s);
     }
     RowMade::NoCells(why_none(layer, w, h, x, y))
 }
@@ -177,7 +178,7 @@ fn add_grid_row(
         RowsMade::NoRows(r) => return RowsMade::NoRows(r),
     };
     let below = o.below;
-    let b = match plane_rows::add_line_row(plane, a, plane_rows::is_at(below, y), false) {
+    let b = match plane_rows::add_line_row(plane, a, plane_cells::is_at(below, y), false) {
         RowsMade::Sofar(t) => t,
         RowsMade::NoRows(r) => return RowsMade::NoRows(r),
     };

@@ -10,8 +10,8 @@ use Rattle.cells.proofs.PlaneLaws.{kept-refl}
 use Rattle.regions.specs.Regions.{Finder}
 use Rattle.walks.specs.Frame.{frameOf}
 use Rattle.walks.specs.Kinds.{grid}
-use Rattle.plane_rows.specs.Made.{rowOf}
-use Rattle.plane_rows.specs.Rows.{Row}
+use Rattle.plane_cells.specs.Made.{rowOf}
+use Rattle.plane_cells.specs.Row.{Row}
 use Rattle.step.proofs.RowLaws.{with-region, no-region, number-at}
 use borrow.Author.Needs.{needs}
 use Rattle.step.proofs.add_frame.Statement.{statement}

@@ -6,10 +6,10 @@ use Rattle.cells.proofs.PlaneLaws.{kept-fits}
 use Rattle.regions.specs.Regions.{Finder}
 use Rattle.walks.specs.Frame.{frameOf}
 use Rattle.walks.specs.Kinds.{grid}
-use Rattle.plane_rows.specs.Made.{RowFit, RowFits}
-use Rattle.plane_rows.specs.declared.RowMade.{RowMade}
-use Rattle.plane_rows.specs.declared.RowMade.the-variants.{Cells}
-use Rattle.plane_rows.specs.declared.RowSofar.{RowSofar}
+use Rattle.plane_cells.specs.Made.{RowFit, RowFits}
+use Rattle.plane_cells.specs.declared.RowMade.{RowMade}
+use Rattle.plane_cells.specs.declared.RowMade.the-variants.{Cells}
+use Rattle.plane_cells.specs.declared.RowSofar.{RowSofar}
 use Rattle.step.proofs.FramesLaws.{frames-out, no-frames, frames-added}
 use borrow.Author.Needs.{needs}
 use Rattle.step.proofs.add_frames.Statement.{statement}

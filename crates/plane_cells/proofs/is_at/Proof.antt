@@ -1,7 +1,7 @@
--- `plane_rows::is_at` meets its contract.
+-- `plane_cells::is_at` meets its contract.
 use borrow.Author.Needs.{needs}
-use Rattle.plane_rows.proofs.is_at.Statement.{statement}
-use Rattle.plane_rows.proofs.is_at.Tie as tie
+use Rattle.plane_cells.proofs.is_at.Statement.{statement}
+use Rattle.plane_cells.proofs.is_at.Tie as tie
 
 enum-known-c : tie.Need-enum-known-c
 enum-known-c c = search needs

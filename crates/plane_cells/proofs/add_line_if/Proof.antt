@@ -1,12 +1,12 @@
--- `plane_rows::add_line_if` meets its contract.
+-- `plane_cells::add_line_if` meets its contract.
 use mathlib.Core.Path.{_∙_}
 use Rattle.cells.specs.Plane.{cellsIn}
 use Rattle.cells.proofs.PlaneLaws.{kept-refl}
-use Rattle.plane_rows.proofs.CellLaws.{line-there, no-line}
+use Rattle.plane_cells.proofs.CellLaws.{line-there, no-line}
 use native.Mathlib.Omega.{arith}
 use borrow.Author.Needs.{needs}
-use Rattle.plane_rows.proofs.add_line_if.Statement.{statement}
-use Rattle.plane_rows.proofs.add_line_if.Tie as tie
+use Rattle.plane_cells.proofs.add_line_if.Statement.{statement}
+use Rattle.plane_cells.proofs.add_line_if.Tie as tie
 
 put-cell-requires : tie.Need-put-cell-requires
 put-cell-requires c κs =

@@ -1,6 +1,6 @@
--- `plane_rows::column_if` meets its contract.
-use Rattle.plane_rows.proofs.column_if.Statement.{statement}
-use Rattle.plane_rows.proofs.column_if.Tie as tie
+-- `plane_cells::column_if` meets its contract.
+use Rattle.plane_cells.proofs.column_if.Statement.{statement}
+use Rattle.plane_cells.proofs.column_if.Tie as tie
 
 returns : tie.Need-returns
 returns c = rw (c .if1 .taken)

@@ -1,4 +1,4 @@
--- `plane_rows::add_cells` meets its contract.
+-- `plane_cells::add_cells` meets its contract.
 use mathlib.Core.Path.{_≡_, ap, _∙_}
 use mathlib.Core.Bool.{Bool}
 use Prim.Native.Nat.{_+_, _<_}
@@ -7,11 +7,11 @@ use lib.Dec.{eqb}
 use Rattle.lists.specs.Choose.{choose}
 use Rattle.model.specs.Limits.{planeRows, planeCells}
 use Rattle.cells.proofs.PlaneLaws.{kept-refl, kept-then}
-use Rattle.plane_rows.specs.Rows.{isAt}
-use Rattle.plane_rows.proofs.CellLaws.{one-few, row-over, cells-over, cells-added}
+use Rattle.plane_cells.specs.Row.{isAt}
+use Rattle.plane_cells.proofs.CellLaws.{one-few, row-over, cells-over, cells-added}
 use borrow.Author.Needs.{needs}
-use Rattle.plane_rows.proofs.add_cells.Statement.{statement}
-use Rattle.plane_rows.proofs.add_cells.Tie as tie
+use Rattle.plane_cells.proofs.add_cells.Statement.{statement}
+use Rattle.plane_cells.proofs.add_cells.Tie as tie
 
 abbrev start : tie.After-one-if2 → tie.Start
 start c = c .before .before .before .before .before .before

@@ -18,9 +18,9 @@ use Rattle.cells.proofs.PlaneLaws.{length-cells}
 use Rattle.outline.specs.declared.Crossing.{Crossing}
 use Rattle.outline.specs.declared.Crossing.the-variants.{At}
 use Rattle.outline.specs.declared.Outline.{Outline}
-use Rattle.plane_rows.specs.Made.{rowOf}
-use Rattle.plane_rows.specs.Rows.{Row, isAt, fitting, outputBefore, annotationBefore, withCell}
-use Rattle.plane_rows.specs.declared.RowSofar.{RowSofar}
+use Rattle.plane_cells.specs.Made.{rowOf}
+use Rattle.plane_cells.specs.Row.{Row, isAt, fitting, outputBefore, annotationBefore, withCell}
+use Rattle.plane_cells.specs.declared.RowSofar.{RowSofar}
 
 pub one-few : (t : Bool) → choose t 1 0 ≤ 1
 one-few true = omega arith

@@ -1,0 +1,2 @@
+-- Laws of cells that are added to a row of a plane.
+pub mod CellLaws
