@@ -10,7 +10,8 @@ use Rattle.utf8.specs.Utf8.{more, by, decode, check, read, encode, encodes}
 use Rattle.unicode.specs.White.{among}
 use Rattle.emphasis.specs.Commas.{parts}
 use Rattle.emphasis.specs.Emphasis.{startsWith, endsWith, stripStart, stripEnd, strip, emphasised, firstMarked}
-use Rattle.values.specs.Values.{replaceAll, valuesOf}
+use Rattle.rewriting.specs.Replaced.{replaceAll}
+use Rattle.values.specs.Values.{valuesOf}
 use Rattle.outline.specs.Outline.{searchFrom, namedBy, outlineBy}
 use Rattle.rule_numbers.specs.Numbering.{counted}
 use Rattle.sheet_rows.specs.Rows.{upTo, collect, widest}

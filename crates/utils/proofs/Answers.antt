@@ -21,7 +21,8 @@ use Rattle.utf8.specs.declared.Checked.the-variants.{Valid, Invalid}
 use Rattle.emphasis.specs.Emphasis.{Choice, plain, marked, choiceOf}
 use Rattle.emphasis.specs.Found.{FoundIn}
 use Rattle.emphasis.proofs.Finding.{between}
-use Rattle.values.specs.Values.{replaceAll, Values, valuesBy, valuesOf}
+use Rattle.rewriting.specs.Replaced.{replaceAll}
+use Rattle.values.specs.Values.{Values, valuesBy, valuesOf}
 use Rattle.values.proofs.ValueLaws.{none-chosen, chosen, bare-inside}
 use Rattle.utils.specs.Split.{splitBy, splitOf, scratchBy, scratchOf, answered, Places}
 use Rattle.utils.specs.declared.Split.{Split}

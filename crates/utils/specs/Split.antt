@@ -12,7 +12,8 @@ use Rattle.model.specs.Refusals.{Reading}
 use Rattle.model.specs.declared.Refusal.the-variants.{InvalidUtf8, OutputSliceShort}
 use Rattle.utf8.specs.Utf8.{checked, onText}
 use Rattle.emphasis.specs.Emphasis.{Choice, plain, marked, choiceOf}
-use Rattle.values.specs.Values.{replaceAll, Values, valuesBy}
+use Rattle.rewriting.specs.Replaced.{replaceAll}
+use Rattle.values.specs.Values.{Values, valuesBy}
 use Rattle.utils.specs.declared.Split.{Split}
 use Rattle.utils.specs.declared.Split.the-variants.{Own, Rewritten, NotSplit}
 

@@ -28,11 +28,11 @@ fn split_text(text: &[u8], scratch: &mut [u8]) -> Split
     if f.hit {
         let mut t = [0usize; 80];
         let k = search::periods_of(&text[from..to], &mut t);
-        let n = values::measure(text, &text[from..to], &text[a..b], &t, k);
+        let n = rewriting::measure(text, &text[from..to], &text[a..b], &t, k);
         if scratch.len() < n {
             return Split::NotSplit(Refusal::OutputSliceShort(n));
         }
-        values::rewrite(text, &text[from..to], &text[a..b], &t, k, scratch, 0);
+        rewriting::rewrite(text, &text[from..to], &text[a..b], &t, k, scratch, 0);
         return Split::Rewritten(n, a, b);
     }
     Split::Own

@@ -1,4 +1,3 @@
 -- Laws of the values of a text.
-pub mod Replacing
 pub mod ValueLaws
 pub mod DefaultLength

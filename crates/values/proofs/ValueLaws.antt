@@ -9,9 +9,10 @@ use Rattle.emphasis.specs.Commas.{parts}
 use Rattle.emphasis.specs.Emphasis.{Choice, plain, marked, choiceOf}
 use Rattle.emphasis.specs.Found.{FoundIn}
 use Rattle.emphasis.proofs.Finding.{between, Sized, first-sized}
-use Rattle.values.specs.Values.{replaceAll, valuesBy, valuesOf, MeasuredOf}
+use Rattle.rewriting.specs.Replaced.{replaceAll}
+use Rattle.rewriting.proofs.Replacing.{replace-length}
+use Rattle.values.specs.Values.{valuesBy, valuesOf, MeasuredOf}
 use Rattle.values.specs.declared.Measured.the-variants.{Plain, Marked}
-use Rattle.values.proofs.Replacing.{replace-length}
 
 module _ {t : List ℕ} {from to a b : ℕ} {hit : Bool} (i : FoundIn t hit from to a b) where
   pub none-chosen : hit ≡ false → choiceOf t ≡ plain

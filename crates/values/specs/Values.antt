@@ -1,20 +1,14 @@
 -- The values of a text, allowed values and default, and what is measured of them: the value split of document 01,
 -- `get_allowed_and_default_output_values` of the Rust.
-use mathlib.Core.List.{List, [], _∷_, _++_}
+use mathlib.Core.List.{List}
 use mathlib.Core.Option.{Option, none, some}
 use mathlib.Core.Path.{_≡_}
-use Prim.Native.Nat.{ℕ, zero, suc, _-_, _≤_}
+use Prim.Native.Nat.{ℕ, _-_, _≤_}
 use lib.ListN.{length, take, drop}
-use Rattle.lists.specs.Choose.{choose}
-use Rattle.emphasis.specs.Emphasis.{Choice, plain, marked, startsWith, choiceOf}
+use Rattle.emphasis.specs.Emphasis.{Choice, plain, marked, choiceOf}
+use Rattle.rewriting.specs.Replaced.{replaceAll}
 use Rattle.values.specs.declared.Measured.{Measured}
 use Rattle.values.specs.declared.Measured.the-variants.{Plain, Marked}
-
--- q for every p in the text, from the left; `skip` counts what is left of a p
-unfoldable pub replaceAll : ℕ → List ℕ → List ℕ → List ℕ → List ℕ
-replaceAll skip p q [] = []
-replaceAll (suc skip) p q (c ∷ s) = replaceAll skip p q s
-replaceAll zero p q (c ∷ s) = choose (startsWith p (c ∷ s)) (q ++ replaceAll (length p - 1) p q s) (c ∷ replaceAll zero p q s)
 
 -- allowed values, and a default that may be absent
 pub record Values : Type 0 where

@@ -1,12 +1,12 @@
--- `values::measure` meets its contract.
+-- `rewriting::measure` meets its contract.
 use Prim.Native.Nat.{_-_}
 use native.Mathlib.Omega.{arith}
 use borrow.Author.Needs.{needs}
 use lib.ListN.{length}
 use Rattle.search.proofs.Searching.{found-here}
-use Rattle.values.proofs.Replacing.{Measuring, measuring-start, measuring-end, measuring-copy, measuring-fits, measuring-hit}
-use Rattle.values.proofs.measure.Statement.{statement}
-use Rattle.values.proofs.measure.Tie as tie
+use Rattle.rewriting.proofs.Replacing.{Measuring, measuring-start, measuring-end, measuring-copy, measuring-fits, measuring-hit}
+use Rattle.rewriting.proofs.measure.Statement.{statement}
+use Rattle.rewriting.proofs.measure.Tie as tie
 
 abbrev Inv-loop : tie.InvT-loop
 Inv-loop s p q t n i₀ size₀ i size = Measuring p q s i size

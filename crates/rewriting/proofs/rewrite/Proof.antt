@@ -1,12 +1,12 @@
--- `values::rewrite` meets its contract.
+-- `rewriting::rewrite` meets its contract.
 use Prim.Native.Nat.{_-_}
 use native.Mathlib.Omega.{arith}
 use borrow.Author.Needs.{needs}
 use lib.ListN.{length}
 use Rattle.search.proofs.Searching.{found-here}
-use Rattle.values.proofs.Replacing.{Rewriting, rewriting-start, rewriting-end, rewriting-room, rewriting-reach, rewriting-copy, rewriting-inside, rewriting-fits, rewriting-hit}
-use Rattle.values.proofs.rewrite.Statement.{statement}
-use Rattle.values.proofs.rewrite.Tie as tie
+use Rattle.rewriting.proofs.Replacing.{Rewriting, rewriting-start, rewriting-end, rewriting-room, rewriting-reach, rewriting-copy, rewriting-inside, rewriting-fits, rewriting-hit}
+use Rattle.rewriting.proofs.rewrite.Statement.{statement}
+use Rattle.rewriting.proofs.rewrite.Tie as tie
 
 abbrev Inv-loop : tie.InvT-loop
 Inv-loop s p q t n out₀ at i₀ end₀ out i end = Rewriting p q s out₀ out at i end

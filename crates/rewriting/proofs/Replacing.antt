@@ -14,7 +14,7 @@ use Rattle.lists.proofs.Tests.{by-flag}
 use Rattle.emphasis.specs.Emphasis.{startsWith}
 use Rattle.emphasis.proofs.StartsWith.{starts-fits, starts-inside}
 use Rattle.search.specs.Periods.{FirstPlace}
-use Rattle.values.specs.Values.{replaceAll}
+use Rattle.rewriting.specs.Replaced.{replaceAll}
 
 skip-replace : (k : ℕ) (p q s : List ℕ) → replaceAll k p q s ≡ replaceAll 0 p q (drop k s)
 unfolding replaceAll

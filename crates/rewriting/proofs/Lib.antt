@@ -1,0 +1,2 @@
+-- Laws of one text put for another everywhere.
+pub mod Replacing
