@@ -1,10 +1,8 @@
--- Laws of the record: its bytes tell the policy, and what a caller of the writer needs.
+-- Laws of the record: its bytes tell the policy, and how its words are written.
 pub mod Words
 pub mod Texts
 pub mod TotalFits
 pub mod PolicyTexts
 pub mod RecordTellsPolicy
-pub mod PlainSlots
-pub mod Writing
-pub mod Steps
+mod Steps
 pub mod Sample

@@ -14,16 +14,17 @@ use Rattle.lists.proofs.RunLaws.{length-run, run-then, run-same, getD-build}
 use Rattle.model.specs.declared.Refusal.{Refusal}
 use Rattle.record.specs.Policy.{Text}
 use Rattle.record.specs.Record.{Table, word, bytesOf, packed, slotOffset, textOffset, slotsIn, total, encode}
-use Rattle.record.specs.Slots.{kindAt, offsetAt, lengthAt, partAt, ofKind, textAt, plainSlots, plainTexts, Parts, Fits}
+use Rattle.record.specs.Slots.{kindAt, offsetAt, lengthAt, partAt}
 use Rattle.record.specs.Written.{begunOf, headed, withTexts}
 use Rattle.record.specs.declared.Begun.the-variants.{Record, NotWritten}
 use Rattle.record.specs.declared.Head.{Head}
-use Rattle.record.proofs.PlainSlots.{plain-kinds, plain-behind, plain-within, length-plain}
 use Rattle.record.proofs.RecordTellsPolicy.{length-encode}
-use Rattle.record.proofs.Steps.{slot-written}
 use Rattle.record.proofs.Texts.{length-packed}
 use Rattle.record.proofs.TotalFits.{total-fits}
-use Rattle.record.proofs.Writing.{with-none, length-with, with-next, text-fits, begun-whole, begun-short, headed-short, standing-start, standing-next, standing-end}
+use Rattle.record_texts.specs.PlainSlots.{ofKind, textAt, plainSlots, plainTexts, Parts, Fits}
+use Rattle.record_texts.proofs.PlainSlots.{plain-kinds, plain-behind, plain-within, length-plain}
+use Rattle.record_texts.proofs.Steps.{slot-written}
+use Rattle.record_texts.proofs.Writing.{with-none, length-with, with-next, text-fits, begun-whole, begun-short, headed-short, standing-start, standing-next, standing-end}
 use Rattle.values.specs.Values.{valuesOf}
 use Rattle.values.proofs.ValueLaws.{split-length}
 use Rattle.writer.specs.PartsHeld.{PartsHeld}

@@ -1,14 +1,15 @@
 // A table's record, written from slots. A slot names a text: none, a part of the bytes, or the allowed values of a part.
 use record::Begun;
 use record::Head;
-use record::Reached;
+use record_texts::Reached;
 ghost use mathlib.Core.List.{[], _∷_};
 ghost use mathlib.Core.Path.{_≡_};
 ghost use Prim.Native.Nat.{_+_, _*_, _≤_, _<_};
 ghost use lib.ListN.{length};
 ghost use Rattle.record.specs.Record.{bytesOf, textOffset, total};
-ghost use Rattle.record.specs.Slots.{kindAt, offsetAt, lengthAt, partAt, Fits};
+ghost use Rattle.record.specs.Slots.{kindAt, offsetAt, lengthAt, partAt};
 ghost use Rattle.record.specs.Written.{begunOf, withTexts};
+ghost use Rattle.record_texts.specs.PlainSlots.{Fits};
 ghost use Rattle.writer.specs.PartsHeld.{PartsHeld};
 ghost use Rattle.writer.specs.SlotTexts.{slotText, textsFrom};
 ghost use Rattle.writer.specs.SlotRecord.{tableFrom, recordIn, SlotsHeld};
@@ -48,7 +49,7 @@ fn write_slots(bytes: &[u8], slots: &[u32], c: usize, out: &mut [u8])
     let mut slot: usize = 0;
     let mut offset = 40 + 8 * c;
     while slot < c {
-        let r = record::put_parts(out, slots, c, bytes, Reached { slot, offset });
+        let r = record_texts::put_parts(out, slots, c, bytes, Reached { slot, offset });
         let next = r.slot;
         if c <= next {
             return;

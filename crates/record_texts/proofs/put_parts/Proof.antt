@@ -1,10 +1,10 @@
--- `record::put_parts` meets its contract.
+-- `record_texts::put_parts` meets its contract.
 use Prim.Native.Nat.{_-_}
 use borrow.Author.Needs.{needs}
-use Rattle.record.proofs.Steps.{PartsTo, parts-start, part-fits, parts-next, parts-end}
-use Rattle.record.proofs.PlainSlots.{plain-stop, plain-end}
-use Rattle.record.proofs.put_parts.Statement.{statement}
-use Rattle.record.proofs.put_parts.Tie as tie
+use Rattle.record_texts.proofs.Steps.{PartsTo, parts-start, part-fits, parts-next, parts-end}
+use Rattle.record_texts.proofs.PlainSlots.{plain-stop, plain-end}
+use Rattle.record_texts.proofs.put_parts.Statement.{statement}
+use Rattle.record_texts.proofs.put_parts.Tie as tie
 
 abbrev Inv-loop : tie.InvT-loop
 Inv-loop out₀ slots count texts slot₀ offset₀ out slot offset = PartsTo texts slots count out₀ slot₀ offset₀ out slot offset

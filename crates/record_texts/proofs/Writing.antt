@@ -14,13 +14,13 @@ use Rattle.lists.specs.Put.{put}
 use Rattle.lists.proofs.PutLaws.{put-nil, put-next, put-comm, put-front, length-put}
 use Rattle.model.specs.declared.Refusal.{Refusal}
 use Rattle.model.specs.declared.Refusal.the-variants.{OutputSliceShort}
 use Rattle.record.specs.Policy.{Text}
 use Rattle.record.specs.Record.{Table, words, slotOf, packed, slotsOf, slotOffset, textOffset, slotsIn, total, headWords, encode}
-use Rattle.record.specs.Slots.{Fits}
 use Rattle.record.specs.declared.Begun.the-variants.{Record, NotWritten}
 use Rattle.record.specs.Written.{begunOf, headed, withTexts, writtenTo}
 use Rattle.record.proofs.Words.{length-words}
 use Rattle.record.proofs.Texts.{length-slots, packed-append, length-packed, packed-one, slots-append}
+use Rattle.record_texts.specs.PlainSlots.{Fits}
 
 -- no text, an absent one, a present one
 pub with-none : (d : List ℕ) (i o : ℕ) → withTexts d i o [] ≡ d

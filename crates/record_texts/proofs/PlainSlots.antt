@@ -13,7 +13,8 @@ use borrow.Author.Tests.{lt-ltb, le-ltb, ltb-true, ltb-false}
 use Rattle.lists.specs.Run.{run}
 use Rattle.lists.proofs.RunLaws.{length-run}
 use Rattle.lists.proofs.Tests.{by-flag}
-use Rattle.record.specs.Slots.{kindAt, partAt, ofKind, textAt, plainSlots, plainTexts}
+use Rattle.record.specs.Slots.{kindAt, partAt}
+use Rattle.record_texts.specs.PlainSlots.{ofKind, textAt, plainSlots, plainTexts}
 
 -- the text of an absent slot, and of a part
 module _ (s d : List ℕ) (i : ℕ) where

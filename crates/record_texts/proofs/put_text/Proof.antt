@@ -1,9 +1,9 @@
--- `record::put_text` meets its contract.
+-- `record_texts::put_text` meets its contract.
 use mathlib.Core.Path.{refl}
 use borrow.Author.Needs.{needs}
-use Rattle.record.proofs.Steps.{text-written}
-use Rattle.record.proofs.put_text.Statement.{statement}
-use Rattle.record.proofs.put_text.Tie as tie
+use Rattle.record_texts.proofs.Steps.{text-written}
+use Rattle.record_texts.proofs.put_text.Statement.{statement}
+use Rattle.record_texts.proofs.put_text.Tie as tie
 
 put-slot-requires : tie.Need-put-slot-requires
 put-slot-requires c κs = search needs

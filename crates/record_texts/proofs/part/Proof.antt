@@ -1,8 +1,8 @@
--- `record::part` meets its contract.
+-- `record_texts::part` meets its contract.
 use borrow.Author.Needs.{needs}
 use native.Mathlib.Nat.{add-sub-cancel-left}
-use Rattle.record.proofs.part.Statement.{statement}
-use Rattle.record.proofs.part.Tie as tie
+use Rattle.record_texts.proofs.part.Statement.{statement}
+use Rattle.record_texts.proofs.part.Tie as tie
 
 add-e : tie.Need-add-e
 add-e c = search needs

@@ -1,8 +1,8 @@
--- `record::put_part` meets its contract.
+-- `record_texts::put_part` meets its contract.
 use borrow.Author.Needs.{needs}
-use Rattle.record.proofs.Steps.{absent-part, part-within, present-fits, present-part}
-use Rattle.record.proofs.put_part.Statement.{statement}
-use Rattle.record.proofs.put_part.Tie as tie
+use Rattle.record_texts.proofs.Steps.{absent-part, part-within, present-fits, present-part}
+use Rattle.record_texts.proofs.put_part.Statement.{statement}
+use Rattle.record_texts.proofs.put_part.Tie as tie
 
 mul-if1 : tie.Need-mul-if1
 mul-if1 c = search needs
