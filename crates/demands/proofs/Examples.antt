@@ -2,8 +2,8 @@
 use mathlib.Core.Path.{refl}
 use Rattle.lists.specs.Picture.{within}
 use Rattle.lists.specs.Run.{run}
-use Rattle.model.specs.Policies.{sameText, byLetters}
-use Rattle.model.specs.RuleNumbers.{digits, numberOf}
+use Rattle.hit_policies.specs.Letters.{sameText, byLetters}
+use Rattle.numerals.specs.RuleNumbers.{digits, numberOf}
 use Rattle.unicode.specs.Lines.{lines, texts, lastOf}
 use Rattle.unicode.specs.Trim.{trimStart, trimEnd, trim, trimStartUtf8, trimUtf8}
 use Rattle.utf8.specs.Utf8.{more, by, decode, check, read, encode, encodes}

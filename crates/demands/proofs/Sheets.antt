@@ -13,8 +13,8 @@ use Rattle.unicode.specs.Lines.{lines, texts, lastOf}
 use Rattle.unicode.specs.Trim.{trimStart, trimEnd, trim}
 use Rattle.utf8.specs.Utf8.{more, by, decode, check, read, encode, encodes}
 use Rattle.unicode.specs.White.{among}
-use Rattle.model.specs.Policies.{sameText, byLetters}
-use Rattle.model.specs.RuleNumbers.{digits, numberOf}
+use Rattle.hit_policies.specs.Letters.{sameText, byLetters}
+use Rattle.numerals.specs.RuleNumbers.{digits, numberOf}
 use Rattle.placement.specs.Orientation.{holdsIn, holds, orientedOf}
 use Rattle.rule_numbers.specs.Numbering.{last, placeBehind, counted, ruleNumbersOf}
 use Rattle.placement.specs.Placement.{placementOf}

@@ -10,13 +10,13 @@ use lib.ListN.{length, getD}
 use Rattle.lists.specs.Answer.{ok, refused}
 use Rattle.lists.specs.Choose.{choose}
 use Rattle.lists.specs.Run.{build}
-use Rattle.model.specs.Policies.{policyOf}
 use Rattle.model.specs.Refusals.{Reading}
-use Rattle.model.specs.RuleNumbers.{numberOf}
 use Rattle.model.specs.declared.BuiltinAggregator.the-variants.{Min}
 use Rattle.model.specs.declared.Cell.the-variants.{Region}
 use Rattle.model.specs.declared.HitPolicy.the-variants.{Collect}
 use Rattle.model.specs.declared.Refusal.the-variants.{CharactersNotFound, InvalidRuleNumber}
+use Rattle.hit_policies.specs.Letters.{policyOf}
+use Rattle.numerals.specs.RuleNumbers.{numberOf}
 use Rattle.allowed.specs.Allowed.{allowedBy}
 use Rattle.rule_numbers.specs.Numbering.{counted}
 use Rattle.utf8.specs.Utf8.{encodes}

@@ -2,7 +2,7 @@
 use mathlib.Core.List.{[], _∷_}
 use mathlib.Core.Option.{some}
 use mathlib.Core.Path.{_≡_, refl}
-use Rattle.model.specs.RuleNumbers.{numberOf, digits}
+use Rattle.numerals.specs.RuleNumbers.{numberOf, digits}
 use Rattle.lines.specs.LentText.{counted, lentIn}
 use Rattle.lines.specs.Texts.{before, bytesIn, textOf}
 

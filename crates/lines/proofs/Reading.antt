@@ -12,9 +12,9 @@ use lib.ListN.{length, take, drop, set, length-set, drop-of-length-le}
 use lib.Seq.{take-suc-set, length-take-le, drop-drop}
 use Rattle.lists.proofs.Parts.{at-cons}
 use Rattle.lists.proofs.Tests.{by-flag}
-use Rattle.model.specs.RuleNumbers.{numberOf, numberFound}
-use Rattle.model.specs.declared.RuleNumber.{RuleNumber}
-use Rattle.model.specs.declared.RuleNumber.the-variants.{Number, NoNumber}
+use Rattle.numerals.specs.RuleNumbers.{numberOf, numberFound}
+use Rattle.numerals.specs.declared.RuleNumber.{RuleNumber}
+use Rattle.numerals.specs.declared.RuleNumber.the-variants.{Number, NoNumber}
 use Rattle.print.specs.Lines.{blank}
 use Rattle.lines.specs.Texts.{before, FirstAt, atMost, flagged, onNumber, onto, nothingIn, bytesIn, textOf, bytesBy, TextWithin}
 use Rattle.lines.specs.declared.LineText.{LineText}

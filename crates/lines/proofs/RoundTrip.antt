@@ -12,8 +12,8 @@ use lib.ListN.{length}
 use lib.Seq.{drop-append-seam}
 use Rattle.io.specs.Digits.{glyph, digits}
 use Rattle.lists.proofs.Tests.{by-flag, both}
-use Rattle.model.specs.RuleNumbers.{isDigit, numberOf}
-use Rattle.model.specs.RuleNumbers.{digits as valueOf}
+use Rattle.numerals.specs.RuleNumbers.{isDigit, numberOf}
+use Rattle.numerals.specs.RuleNumbers.{digits as valueOf}
 use Rattle.print.specs.Decimal.{widthBy, width, decimal, spaced, listed}
 use Rattle.print.specs.Lines.{blank}
 use Rattle.lines.specs.Texts.{before, bytesIn, textOf}

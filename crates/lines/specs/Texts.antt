@@ -7,7 +7,7 @@ use Prim.Native.Nat.{ℕ, zero, suc, _-_, _≤_, _<_}
 use lib.Dec.{eqb, leb}
 use lib.ListN.{length, getD, take, drop}
 use Rattle.lists.specs.Choose.{choose}
-use Rattle.model.specs.RuleNumbers.{numberOf}
+use Rattle.numerals.specs.RuleNumbers.{numberOf}
 use Rattle.print.specs.Lines.{blank}
 use Rattle.lines.specs.declared.LineText.{LineText}
 use Rattle.lines.specs.declared.LineText.the-variants.{Text, Malformed}

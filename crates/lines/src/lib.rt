@@ -1,11 +1,11 @@
 // A line of input: the words of a line, the text that stands behind a line's kind, and the lists of a lent plane in a
 // text.
-use model::RuleNumber;
 use model::limits::TEXT_BYTES;
+use numerals::RuleNumber;
 ghost use mathlib.Core.Path.{_≡_};
 ghost use Prim.Native.Nat.{_+_, _-_, _≤_};
 ghost use lib.ListN.{length, take, drop};
-ghost use Rattle.model.specs.RuleNumbers.{numberOf};
+ghost use Rattle.numerals.specs.RuleNumbers.{numberOf};
 ghost use Rattle.lines.specs.Texts.{FirstAt, flagged, atMost, bytesIn, bytesBy, textOf, textIn, TextWithin};
 ghost use Rattle.lines.specs.LentText.{counted, cutIn, EndWithin, lentIn, listAt, listsIn, ListsWithin};
 
@@ -43,7 +43,7 @@ struct Small {
 fn small_number(word: &[u8], most: usize) -> Small
     ensures { λ r. ⌜ atMost most (numberOf (now (word .entry))) ≡ flagged (r .hit) (r .value) ⌝ }
 {
-    match model::rule_number(word) {
+    match numerals::rule_number(word) {
         RuleNumber::Number(n) => {
             if n <= most as u64 {
                 return Small {

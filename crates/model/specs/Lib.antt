@@ -2,6 +2,5 @@ pub mod Limits
 pub mod Box
 pub mod Geometry
 pub mod Policies
-pub mod RuleNumbers
 pub mod Cells
 pub mod Refusals

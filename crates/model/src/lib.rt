@@ -1,12 +1,9 @@
 // The words of a decision table: points, rects, hit policies, placements, cells, and why a sheet is refused.
 ghost use mathlib.Core.Path.{_≡_};
-ghost use mathlib.Core.List.{[], _∷_};
 ghost use Prim.Native.Nat.{_+_, _-_, _<_, _^_};
-ghost use lib.ListN.{drop};
 ghost use Rattle.model.specs.Geometry.{containsOf};
-ghost use Rattle.model.specs.Policies.{policyNumber, orientationNumber, policyOf, policyFound};
+ghost use Rattle.model.specs.Policies.{policyNumber, orientationNumber};
 ghost use Rattle.model.specs.Cells.{kindOf, regionOf, regionFound, sameKind, cellNumber, cellOf, turnedCell, Small};
-ghost use Rattle.model.specs.RuleNumbers.{numberOf, numberFound, unsigned};
 
 pub mod box_drawing;
 pub mod limits;
@@ -113,12 +110,6 @@ pub enum Orientation {
     RulesAsColumns,
 }
 
-// A text's hit policy, if it is one.
-pub enum FoundPolicy {
-    Policy(HitPolicy),
-    NoPolicy,
-}
-
 // Where the hit policy stands in a plane.
 pub enum HitPolicyPlacement {
     TopLeft(HitPolicy),
@@ -143,12 +134,6 @@ pub enum Cell {
     MainDoubleCrossing,
     HorizontalDoubleCrossing,
     VerticalDoubleCrossing,
-}
-
-// A text's rule number, if it is one.
-pub enum RuleNumber {
-    Number(u64),
-    NoNumber,
 }
 
 // Why a sheet, a lent plane or a text is refused.
@@ -225,97 +210,6 @@ pub fn orientation_number(o: Orientation) -> u32
         Orientation::RulesAsRows => 0,
         Orientation::RulesAsColumns => 1,
     }
-}
-
-// The policy of a text of one letter.
-fn letter_policy(c: u8) -> FoundPolicy
-    ensures { λ r. ⌜ policyFound r ≡ policyOf (c ∷ []) ⌝ }
-{
-    match c {
-        0x55 => FoundPolicy::Policy(HitPolicy::Unique),
-        0x41 => FoundPolicy::Policy(HitPolicy::Any),
-        0x50 => FoundPolicy::Policy(HitPolicy::Priority),
-        0x46 => FoundPolicy::Policy(HitPolicy::First),
-        0x52 => FoundPolicy::Policy(HitPolicy::RuleOrder),
-        0x4F => FoundPolicy::Policy(HitPolicy::OutputOrder),
-        0x43 => FoundPolicy::Policy(HitPolicy::Collect(BuiltinAggregator::List)),
-        _ => FoundPolicy::NoPolicy,
-    }
-}
-
-// The policy of a C and a sign.
-fn collect_policy(c: u8) -> FoundPolicy
-    ensures { λ r. ⌜ policyFound r ≡ policyOf (0x43 ∷ c ∷ []) ⌝ }
-{
-    match c {
-        0x2B => FoundPolicy::Policy(HitPolicy::Collect(BuiltinAggregator::Sum)),
-        0x23 => FoundPolicy::Policy(HitPolicy::Collect(BuiltinAggregator::Count)),
-        0x3C => FoundPolicy::Policy(HitPolicy::Collect(BuiltinAggregator::Min)),
-        0x3E => FoundPolicy::Policy(HitPolicy::Collect(BuiltinAggregator::Max)),
-        _ => FoundPolicy::NoPolicy,
-    }
-}
-
-// The hit policy of a trimmed text.
-pub fn hit_policy(s: &[u8]) -> FoundPolicy
-    ensures { λ r. ⌜ policyFound r ≡ policyOf (now (s .entry)) ⌝ }
-{
-    if s.len() == 1 {
-        return letter_policy(s[0]);
-    }
-    if s.len() != 2 {
-        return FoundPolicy::NoPolicy;
-    }
-    if s[0] != 0x43 {
-        return FoundPolicy::NoPolicy;
-    }
-    collect_policy(s[1])
-}
-
-fn wide(x: u8) -> u64
-    ensures { λ r. ⌜ r ≡ x ⌝ }
-{
-    x as u64
-}
-
-// The number that the text from an index on is, digits alone.
-fn unsigned_number(s: &[u8], from: usize) -> RuleNumber
-    ensures { λ r. ⌜ numberFound r ≡ unsigned (drop from (now (s .entry))) ⌝ }
-{
-    if s.len() <= from {
-        return RuleNumber::NoNumber;
-    }
-    let mut i = from;
-    let mut a: u64 = 0;
-    while i < s.len() {
-        let c = s[i];
-        if c < 0x30 {
-            return RuleNumber::NoNumber;
-        }
-        if 0x39 < c {
-            return RuleNumber::NoNumber;
-        }
-        let d = wide(c) - 0x30;
-        if (0xFFFF_FFFF_FFFF_FFFF - d) / 10 < a {
-            return RuleNumber::NoNumber;
-        }
-        a = a * 10 + d;
-        i += 1;
-    }
-    RuleNumber::Number(a)
-}
-
-// The rule number of a trimmed text.
-pub fn rule_number(s: &[u8]) -> RuleNumber
-    ensures { λ r. ⌜ numberFound r ≡ numberOf (now (s .entry)) ⌝ }
-{
-    if s.len() == 0 {
-        return RuleNumber::NoNumber;
-    }
-    if s[0] == 0x2B {
-        return unsigned_number(s, 1);
-    }
-    unsigned_number(s, 0)
 }
 
 // The number of a cell's kind.

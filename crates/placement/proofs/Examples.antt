@@ -4,12 +4,12 @@ use mathlib.Core.List.{List, [], _∷_}
 use Prim.Native.Nat.{ℕ}
 use lib.ListN.{getD}
 use Rattle.lists.specs.Answer.{ok, refused}
-use Rattle.model.specs.Policies.{sameText, byLetters}
-use Rattle.model.specs.RuleNumbers.{digits, numberOf}
 use Rattle.model.specs.declared.Cell.the-variants.{Region, VerticalOutputDoubleLine, HorizontalOutputDoubleLine, MainDoubleCrossing}
 use Rattle.model.specs.declared.HitPolicy.the-variants.{Unique}
 use Rattle.model.specs.declared.Orientation.the-variants.{RulesAsRows, RulesAsColumns}
 use Rattle.model.specs.declared.Refusal.the-variants.{InvalidRuleNumber}
+use Rattle.hit_policies.specs.Letters.{sameText, byLetters}
+use Rattle.numerals.specs.RuleNumbers.{digits, numberOf}
 use Rattle.cells.specs.Plane.{Plane}
 use Rattle.rule_numbers.specs.Numbering.{last, placeBehind, counted, ruleNumbersOf}
 use Rattle.placement.specs.Placement.{placementOf}

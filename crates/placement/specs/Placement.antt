@@ -5,13 +5,13 @@ use Prim.Native.Nat.{ℕ}
 use Rattle.lists.specs.Answer.{ok, refused, _>>=_}
 use Rattle.lists.specs.Choose.{onSome}
 use Rattle.model.specs.Cells.{regionOf}
-use Rattle.model.specs.Policies.{policyOf}
 use Rattle.model.specs.Refusals.{Reading}
 use Rattle.model.specs.declared.Cell.{Cell}
 use Rattle.model.specs.declared.HitPolicy.{HitPolicy}
 use Rattle.model.specs.declared.HitPolicyPlacement.{HitPolicyPlacement}
 use Rattle.model.specs.declared.HitPolicyPlacement.the-variants.{TopLeft, BottomLeft, NotPresent}
 use Rattle.model.specs.declared.Refusal.the-variants.{PlaneEmpty, PlaneMalformed}
+use Rattle.hit_policies.specs.Letters.{policyOf}
 use Rattle.cells.specs.Plane.{Plane}
 use Rattle.rule_numbers.specs.Numbering.{first, last}
 

@@ -1,10 +1,10 @@
 -- What the functions of placement answer.
 use mathlib.Core.Option.{Option}
 use Rattle.lists.specs.Answer.{ok, refused}
-use Rattle.model.specs.Policies.{policyFound}
 use Rattle.model.specs.Refusals.{Reading}
 use Rattle.model.specs.declared.HitPolicy.{HitPolicy}
 use Rattle.model.specs.declared.HitPolicyPlacement.{HitPolicyPlacement}
+use Rattle.hit_policies.specs.Letters.{policyFound}
 use Rattle.placement.specs.declared.Corner.{Corner}
 use Rattle.placement.specs.declared.Corner.the-variants.{Begins, NoCorner}
 use Rattle.placement.specs.declared.Placed.{Placed}

@@ -1,7 +1,7 @@
 // Where the hit policy stands in a plane, and which way its sheet is laid out.
+use hit_policies::FoundPolicy;
 use model::Cell;
 use model::CellRegion;
-use model::FoundPolicy;
 use model::HitPolicy;
 use model::HitPolicyPlacement;
 use model::Orientation;
@@ -12,7 +12,7 @@ use rule_numbers::Slot;
 ghost use mathlib.Core.Option.{some};
 ghost use mathlib.Core.Path.{_≡_};
 ghost use Prim.Native.Nat.{_<_};
-ghost use Rattle.model.specs.Policies.{policyFound};
+ghost use Rattle.hit_policies.specs.Letters.{policyFound};
 ghost use Rattle.cells.specs.Plane.{rowIn, planeIn, PlaneFits};
 ghost use Rattle.cells.specs.Held.{Held};
 ghost use Rattle.cells.specs.Spans.{textIn};
@@ -27,7 +27,7 @@ fn policy_in(c: Cell, bytes: &[u8], spans: &[u32], count: usize) -> FoundPolicy
     ensures { λ r. ⌜ policyFound r ≡ policyIn (textIn (now (bytes .entry)) (now (spans .entry)) count) c ⌝ }
 {
     match model::region_of(c) {
-        CellRegion::Number(k) => model::hit_policy(cells::text_at(bytes, spans, k)),
+        CellRegion::Number(k) => hit_policies::hit_policy(cells::text_at(bytes, spans, k)),
         CellRegion::NoRegion => FoundPolicy::NoPolicy,
     }
 }

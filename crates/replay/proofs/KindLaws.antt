@@ -6,7 +6,7 @@ use Prim.Native.Nat.{ℕ}
 use lib.Dec.{eqb}
 use borrow.Author.Tests.{eqb-true, eq-eqb}
 use Rattle.lists.proofs.Tests.{by-flag, both, true-false}
-use Rattle.model.specs.Policies.{sameText}
+use Rattle.hit_policies.specs.Letters.{sameText}
 use Rattle.replay.specs.Kinds.{splitWord, drawingWord, planeWord, sheetWord, tableWord, kindOf}
 use Rattle.replay.specs.declared.Kind.the-variants.{Split, Drawing, Plane, Sheet, Table, Unknown}
 

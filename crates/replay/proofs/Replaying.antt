@@ -10,7 +10,7 @@ use lib.ListN.{length, take, drop, drop-of-length-le}
 use lib.Seq.{take-add, length-take-le}
 use Rattle.lists.proofs.Parts.{at-cons, part-add, part-end}
 use Rattle.model.specs.Limits.{textBytes}
-use Rattle.model.specs.RuleNumbers.{numberOf}
+use Rattle.numerals.specs.RuleNumbers.{numberOf}
 use Rattle.print.specs.Decimal.{Written}
 use Rattle.print.specs.Lines.{blank, lineFeed}
 use Rattle.print.proofs.WrittenLaws.{take-written, written-as}

@@ -3,7 +3,7 @@ use mathlib.Core.List.{List, [], _∷_}
 use Prim.Native.Nat.{ℕ, suc}
 use lib.ListN.{length, drop}
 use Rattle.lists.specs.Choose.{choose}
-use Rattle.model.specs.Policies.{sameText}
+use Rattle.hit_policies.specs.Letters.{sameText}
 use Rattle.print.specs.Lines.{blank}
 use Rattle.lines.specs.Texts.{before}
 use Rattle.replay.specs.declared.Kind.{Kind}

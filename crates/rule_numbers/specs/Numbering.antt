@@ -7,13 +7,13 @@ use lib.ListN.{drop}
 use Rattle.lists.specs.Answer.{ok, refused, _>>=_}
 use Rattle.lists.specs.Choose.{choose, onSome}
 use Rattle.model.specs.Cells.{regionOf, sameKind}
-use Rattle.model.specs.RuleNumbers.{numberOf}
 use Rattle.model.specs.Refusals.{Reading}
 use Rattle.model.specs.declared.Cell.{Cell}
 use Rattle.model.specs.declared.Cell.the-variants.{VerticalOutputDoubleLine, HorizontalOutputDoubleLine}
 use Rattle.model.specs.declared.Refusal.the-variants.{PlaneMalformed, InvalidRuleNumber}
 use Rattle.model.specs.declared.RuleNumbersPlacement.{RuleNumbersPlacement}
 use Rattle.model.specs.declared.RuleNumbersPlacement.the-variants as numbers
+use Rattle.numerals.specs.RuleNumbers.{numberOf}
 use Rattle.cells.specs.Plane.{Plane}
 
 -- the first of a list, if there is one

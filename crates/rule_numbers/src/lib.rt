@@ -2,13 +2,13 @@
 use model::Cell;
 use model::CellRegion;
 use model::Refusal;
-use model::RuleNumber;
 use model::RuleNumbersPlacement;
+use numerals::RuleNumber;
 ghost use mathlib.Core.Path.{_≡_};
 ghost use Prim.Native.Nat.{_≤_, _<_};
 ghost use lib.ListN.{length, drop};
 ghost use Rattle.model.specs.Limits.{planeRows, planeSize};
-ghost use Rattle.model.specs.RuleNumbers.{numberFound};
+ghost use Rattle.numerals.specs.RuleNumbers.{numberFound};
 ghost use Rattle.cells.specs.Plane.{planeIn};
 ghost use Rattle.cells.specs.Held.{Held};
 ghost use Rattle.cells.specs.Spans.{textIn};
@@ -22,7 +22,7 @@ fn number_in(c: Cell, bytes: &[u8], spans: &[u32], count: usize) -> RuleNumber
     ensures { λ r. ⌜ numberFound r ≡ numberIn (textIn (now (bytes .entry)) (now (spans .entry)) count) c ⌝ }
 {
     match model::region_of(c) {
-        CellRegion::Number(k) => model::rule_number(cells::text_at(bytes, spans, k)),
+        CellRegion::Number(k) => numerals::rule_number(cells::text_at(bytes, spans, k)),
         CellRegion::NoRegion => RuleNumber::NoNumber,
     }
 }

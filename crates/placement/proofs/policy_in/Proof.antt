@@ -1,6 +1,6 @@
 -- `placement::policy_in` meets its contract.
 use mathlib.Core.Path.{ap, _∙_}
-use Rattle.model.specs.Policies.{policyOf}
+use Rattle.hit_policies.specs.Letters.{policyOf}
 use Rattle.rule_numbers.proofs.TextLaws.{part-room, part-text}
 use borrow.Author.Needs.{needs}
 use Rattle.placement.proofs.policy_in.Statement.{statement}

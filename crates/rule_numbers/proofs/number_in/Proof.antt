@@ -1,6 +1,6 @@
 -- `rule_numbers::number_in` meets its contract.
 use mathlib.Core.Path.{ap, _∙_}
-use Rattle.model.specs.RuleNumbers.{numberOf}
+use Rattle.numerals.specs.RuleNumbers.{numberOf}
 use Rattle.rule_numbers.proofs.TextLaws.{part-room, part-text}
 use borrow.Author.Needs.{needs}
 use Rattle.rule_numbers.proofs.number_in.Statement.{statement}

@@ -10,7 +10,7 @@ use lib.ListN.{length, getD, drop, drop-of-length-le}
 use borrow.Author.Tests.{le-leb, lt-leb, lt-ltb, le-ltb, eq-eqb, ne-eqb}
 use Rattle.lists.specs.Choose.{choose}
 use Rattle.lists.proofs.Parts.{at-cons}
-use Rattle.model.specs.RuleNumbers.{isDigit, digits, fits64, unsigned, numberOf}
+use Rattle.numerals.specs.RuleNumbers.{isDigit, digits, fits64, unsigned, numberOf}
 
 -- the byte at i is a digit, or is none
 module _ (s : List ℕ) (a i : ℕ) (h : i < length s) where

@@ -1,11 +1,11 @@
--- `model::unsigned_number` meets its contract.
+-- `numerals::unsigned_number` meets its contract.
 use Prim.Native.Nat.{_-_}
 use lib.ListN.{length}
-use Rattle.model.proofs.NumberLaws.{Digits, digits-start, digits-low, digits-high, digits-over, digits-more, digits-done, no-digits}
+use Rattle.numerals.proofs.NumberLaws.{Digits, digits-start, digits-low, digits-high, digits-over, digits-more, digits-done, no-digits}
 use native.Mathlib.Omega.{arith}
 use borrow.Author.Needs.{needs}
-use Rattle.model.proofs.unsigned_number.Statement.{statement}
-use Rattle.model.proofs.unsigned_number.Tie as tie
+use Rattle.numerals.proofs.unsigned_number.Statement.{statement}
+use Rattle.numerals.proofs.unsigned_number.Tie as tie
 
 abbrev Inv-loop : tie.InvT-loop
 Inv-loop s from i₀ a₀ i a = Digits s from i a

@@ -5,8 +5,8 @@ use mathlib.Core.Option.{Option, none, some}
 use Prim.Native.Nat.{ℕ, _+_, _-_, _*_, _^_}
 use lib.Dec.{eqb, leb, ltb}
 use Rattle.lists.specs.Choose.{choose}
-use Rattle.model.specs.declared.RuleNumber.{RuleNumber}
-use Rattle.model.specs.declared.RuleNumber.the-variants.{Number, NoNumber}
+use Rattle.numerals.specs.declared.RuleNumber.{RuleNumber}
+use Rattle.numerals.specs.declared.RuleNumber.the-variants.{Number, NoNumber}
 
 -- the byte is a decimal digit
 abbrev pub isDigit : ℕ → Bool

@@ -1,8 +1,8 @@
--- `model::collect_policy` meets its contract.
-use Rattle.model.specs.Policies.{byLetters, sameText}
-use Rattle.model.proofs.PolicyLaws.{no-sign}
-use Rattle.model.proofs.collect_policy.Statement.{statement}
-use Rattle.model.proofs.collect_policy.Tie as tie
+-- `hit_policies::collect_policy` meets its contract.
+use Rattle.hit_policies.specs.Letters.{byLetters, sameText}
+use Rattle.hit_policies.proofs.LetterLaws.{no-sign}
+use Rattle.hit_policies.proofs.collect_policy.Statement.{statement}
+use Rattle.hit_policies.proofs.collect_policy.Tie as tie
 
 returns : tie.Need-returns
 unfolding byLetters sameText

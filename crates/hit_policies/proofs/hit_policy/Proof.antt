@@ -1,10 +1,10 @@
--- `model::hit_policy` meets its contract.
+-- `hit_policies::hit_policy` meets its contract.
 use mathlib.Core.Path.{ap, _∙_}
-use Rattle.model.specs.Policies.{policyOf}
-use Rattle.model.proofs.PolicyLaws.{no-length, no-collect, one-byte, collect-bytes}
+use Rattle.hit_policies.specs.Letters.{policyOf}
+use Rattle.hit_policies.proofs.LetterLaws.{no-length, no-collect, one-byte, collect-bytes}
 use borrow.Author.Needs.{needs}
-use Rattle.model.proofs.hit_policy.Statement.{statement}
-use Rattle.model.proofs.hit_policy.Tie as tie
+use Rattle.hit_policies.proofs.hit_policy.Statement.{statement}
+use Rattle.hit_policies.proofs.hit_policy.Tie as tie
 
 shared-slice-read-letter-policy : tie.Need-shared-slice-read-letter-policy
 shared-slice-read-letter-policy c = search needs

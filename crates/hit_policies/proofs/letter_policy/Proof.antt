@@ -1,8 +1,8 @@
--- `model::letter_policy` meets its contract.
-use Rattle.model.specs.Policies.{byLetters, sameText}
-use Rattle.model.proofs.PolicyLaws.{no-letter}
-use Rattle.model.proofs.letter_policy.Statement.{statement}
-use Rattle.model.proofs.letter_policy.Tie as tie
+-- `hit_policies::letter_policy` meets its contract.
+use Rattle.hit_policies.specs.Letters.{byLetters, sameText}
+use Rattle.hit_policies.proofs.LetterLaws.{no-letter}
+use Rattle.hit_policies.proofs.letter_policy.Statement.{statement}
+use Rattle.hit_policies.proofs.letter_policy.Tie as tie
 
 returns : tie.Need-returns
 unfolding byLetters sameText

@@ -1,9 +1,9 @@
--- `model::rule_number` meets its contract.
+-- `numerals::rule_number` meets its contract.
 use mathlib.Core.Path.{_∙_}
-use Rattle.model.proofs.NumberLaws.{no-text, with-plus, without-plus}
+use Rattle.numerals.proofs.NumberLaws.{no-text, with-plus, without-plus}
 use borrow.Author.Needs.{needs}
-use Rattle.model.proofs.rule_number.Statement.{statement}
-use Rattle.model.proofs.rule_number.Tie as tie
+use Rattle.numerals.proofs.rule_number.Statement.{statement}
+use Rattle.numerals.proofs.rule_number.Tie as tie
 
 returns : tie.Need-returns
 returns c = no-text _ (c .if1 .taken)

@@ -1,0 +1,3 @@
+-- Laws of the definitions of specs/.
+pub mod NumberLaws
+pub mod Examples
