@@ -1,3 +1,2 @@
 -- Laws of code points in a text.
 pub mod KnownLaws
-pub mod Stored

@@ -17,7 +17,7 @@ fn put_row(out: &mut [u8], at: usize, layer: &[u32], w: usize, h: usize, y: usiz
     let mut x = 0;
     let mut n = at;
     while x < w {
-        n = code_points::put_code(out, n, layer[y * w + x]);
+        n = encoding::put_code(out, n, layer[y * w + x]);
         x += 1;
     }
     print::put_word(out, n, b"\n")

@@ -30,7 +30,7 @@ fn put_part(text: &[u32], from: usize, to: usize, bytes: &mut [u8], at: usize) -
         if TEXT_BYTES < p {
             return TEXT_BYTES + 1;
         }
-        p = code_points::put_code(bytes, p, text[i]);
+        p = encoding::put_code(bytes, p, text[i]);
         i += 1;
     }
     if TEXT_BYTES < p {

@@ -1,10 +1,10 @@
--- `code_points::put_code` meets its contract.
+-- `encoding::put_code` meets its contract.
 use borrow.Author.Needs.{needs}
 use Rattle.utf8.specs.Utf8.{encode}
 use Rattle.utf8.proofs.Utf8Laws.{encode1, encode2, encode3, encode4}
-use Rattle.code_points.proofs.Stored.{stored1, stored2, stored3, stored4}
-use Rattle.code_points.proofs.put_code.Statement.{statement}
-use Rattle.code_points.proofs.put_code.Tie as tie
+use Rattle.encoding.proofs.Stored.{stored1, stored2, stored3, stored4}
+use Rattle.encoding.proofs.put_code.Statement.{statement}
+use Rattle.encoding.proofs.put_code.Tie as tie
 
 put-byte-requires : tie.Need-put-byte-requires
 put-byte-requires c κs = search needs

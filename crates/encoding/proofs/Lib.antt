@@ -1,0 +1,2 @@
+-- Laws of the bytes of a code point.
+mod Stored
