@@ -66,7 +66,7 @@ pub fn draw_sheet(
     ensures end { λ r. ⌜ Ended r (now (s .entry)) 0 ⌝ }
 {
     match scan::scan(s, 0, text, bodies) {
-        Scanned::Canvas(rows, columns, end, valid) => match text_lines::validate_lines(s, valid) {
+        Scanned::Canvas(rows, columns, end, valid) => match line_checks::validate_lines(s, valid) {
             Checked::Valid => match outline::recognize_outline(text, columns, rows) {
                 Outlined::Table(o) => {
                     make_layers(text, thins, bodies, grid, columns, rows, o.body);

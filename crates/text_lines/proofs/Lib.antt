@@ -1,3 +1,2 @@
 mod LineReading
 mod SeenLaws
-mod PlainLaws

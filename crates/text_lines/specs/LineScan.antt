@@ -1,7 +1,7 @@
 -- What the inner functions of the crate answer on the way: no caller needs these.
 use mathlib.Core.List.{List, [], _∷_}
 use mathlib.Core.Path.{_≡_}
-use Prim.Native.Nat.{ℕ, _+_, _*_, _≤_, _<_}
+use Prim.Native.Nat.{ℕ, _+_, _*_, _<_}
 use lib.Dec.{eqb}
 use lib.ListN.{length, getD, drop}
 use Rattle.lists.specs.Choose.{choose}
@@ -10,7 +10,8 @@ use Rattle.utf8.specs.declared.Decoded.{Decoded}
 use Rattle.utf8.specs.declared.Decoded.the-variants.{Char, IllFormed, End}
 use Rattle.unicode.specs.White.{white}
 use Rattle.unicode.specs.Trim.{trimEnd}
-use Rattle.unicode.specs.Lines.{line, after, lastOf}
+use Rattle.unicode.specs.Lines.{line, lastOf}
+use Rattle.line_checks.specs.LineEnds.{NextFrom}
 use Rattle.text_lines.specs.declared.Seen.{Seen}
 use Rattle.text_lines.specs.declared.Seen.the-variants.{Text, White, LineFeed, Nothing}
 
@@ -30,22 +31,11 @@ pub record WordAt (s : List ℕ) (at word : ℕ) : Type 0 where
   pub sum : word ≡ getD s at 0 + getD s (at + 1) 0 * 0x100 + getD s (at + 2) 0 * 0x10000 + getD s (at + 3) 0 * 0x1000000
   pub bytes : (getD s at 0 < 256) × (getD s (at + 1) 0 < 256) × (getD s (at + 2) 0 < 256) × (getD s (at + 3) 0 < 256)
 
--- the bytes from one place up to another are ASCII from 0x20 on
-pub record Plain (s : List ℕ) (at to : ℕ) : Type 0 where
-  pub bytes : (p : ℕ) → at ≤ p → p < to → (0x20 ≤ getD s p 0) × (getD s p 0 ≤ 0x7F)
-
 -- the code point that a line's text begins with at a sequence, 0 where it has none
 abbrev pub headOf : Decoded → ℕ
 headOf (Char c n) = choose (eqb c 0x0A) 0 c
 headOf IllFormed = 0
 headOf End = 0
-
--- the line that is read from `from` on ends, and the next starts at `next`
-pub record NextFrom (s : List ℕ) (from next : ℕ) : Type 0 where
-  pub onward : codes (drop next s) ≡ after (codes (drop from s))
-  pub inside : next ≤ length s
-  pub along : from ≤ next
-  pub further : from < length s → from < next
 
 -- the rest of a line: its length without the white space at the end, its last code point, and where the next line starts
 pub record RestAt (s : List ℕ) (from count last next : ℕ) : Type 0 where

@@ -1,8 +1,8 @@
--- `text_lines::is_plain` meets its contract.
+-- `line_checks::is_plain` meets its contract.
 use borrow.Author.Tests.{leb-true}
 use Rattle.lists.proofs.Tests.{both}
-use Rattle.text_lines.proofs.is_plain.Statement.{statement}
-use Rattle.text_lines.proofs.is_plain.Tie as tie
+use Rattle.line_checks.proofs.is_plain.Statement.{statement}
+use Rattle.line_checks.proofs.is_plain.Tie as tie
 
 returns : tie.Need-returns
 returns c e = let t = both _ _ e in (leb-true _ _ (t .0), leb-true _ _ (t .1))

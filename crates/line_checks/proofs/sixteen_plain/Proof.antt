@@ -1,11 +1,11 @@
--- `text_lines::sixteen_plain` meets its contract.
+-- `line_checks::sixteen_plain` meets its contract.
 use Prim.Native.Nat.{_+_}
 use native.Mathlib.Omega.{arith}
-use Rattle.text_lines.specs.LineScan.{Plain}
-use Rattle.text_lines.proofs.PlainLaws.{plain-join, all-four}
+use Rattle.line_checks.specs.LineEnds.{Plain}
+use Rattle.line_checks.proofs.PlainLaws.{plain-join, all-four}
 use borrow.Author.Needs.{needs}
-use Rattle.text_lines.proofs.sixteen_plain.Statement.{statement}
-use Rattle.text_lines.proofs.sixteen_plain.Tie as tie
+use Rattle.line_checks.proofs.sixteen_plain.Statement.{statement}
+use Rattle.line_checks.proofs.sixteen_plain.Tie as tie
 
 returns : tie.Need-returns
 returns c e =

@@ -1,12 +1,12 @@
--- `text_lines::validate_lines` meets its contract.
+-- `line_checks::validate_lines` meets its contract.
 use mathlib.Core.Path.{_≡_, refl, sym, _∙_}
 use Prim.Native.Nat.{_-_, _<_}
 use native.Mathlib.Omega.{arith}
 use lib.ListN.{length}
 use borrow.Author.Needs.{needs}
 use Rattle.utf8.specs.Utf8.{SameCheck}
-use Rattle.text_lines.proofs.validate_lines.Statement.{statement}
-use Rattle.text_lines.proofs.validate_lines.Tie as tie
+use Rattle.line_checks.proofs.validate_lines.Statement.{statement}
+use Rattle.line_checks.proofs.validate_lines.Tie as tie
 
 abbrev Inv-loop : tie.InvT-loop
 Inv-loop s from at₀ valid₀ at valid = SameCheck s from valid × (at < length s → valid ≡ at)

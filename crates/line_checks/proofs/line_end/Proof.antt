@@ -1,4 +1,4 @@
--- `text_lines::line_end` meets its contract.
+-- `line_checks::line_end` meets its contract.
 use mathlib.Core.Path.{_≡_, refl}
 use mathlib.Core.List.{List}
 use Prim.Native.Nat.{ℕ, _-_}
@@ -10,10 +10,10 @@ use Rattle.utf8.specs.Passed.{codeOf}
 use Rattle.utf8.specs.declared.Decoded.the-variants.{Char}
 use Rattle.utf8.proofs.Utf8Laws.{codes-bad}
 use Rattle.utf8.proofs.RareLaws.{passed-bad, passed-char}
-use Rattle.text_lines.proofs.LineReading.{Passing, pass-start, pass-fits, pass-more, pass-feed, pass-stop, pass-end}
-use Rattle.text_lines.proofs.PlainLaws.{pass-plain, feed-here, no-feed-here}
-use Rattle.text_lines.proofs.line_end.Statement.{statement}
-use Rattle.text_lines.proofs.line_end.Tie as tie
+use Rattle.line_checks.proofs.LinePassing.{Passing, pass-start, pass-fits, pass-more, pass-feed, pass-stop, pass-end}
+use Rattle.line_checks.proofs.PlainLaws.{pass-plain, feed-here, no-feed-here}
+use Rattle.line_checks.proofs.line_end.Statement.{statement}
+use Rattle.line_checks.proofs.line_end.Tie as tie
 
 abbrev Inv-loop : tie.InvT-loop
 Inv-loop s from p₀ p = Passing s from p

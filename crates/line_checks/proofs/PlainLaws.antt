@@ -14,8 +14,8 @@ use Rattle.utf8.specs.declared.Decoded.the-variants.{Char}
 use Rattle.utf8.proofs.Utf8Laws.{decode-at, row1, check-at, codes-at, encode1}
 use Rattle.utf8.proofs.Inverse.{decode-size, encode-decode}
 use Rattle.unicode.specs.Lines.{after}
-use Rattle.text_lines.specs.LineScan.{Plain}
-use Rattle.text_lines.proofs.LineReading.{Passing, after-more}
+use Rattle.line_checks.specs.LineEnds.{Plain}
+use Rattle.line_checks.proofs.LinePassing.{Passing, after-more}
 
 pub plain-none : (s : List ℕ) (at : ℕ) → Plain s at at
 plain-none s at = record { bytes = λ p a b. absurd (omega arith) }

@@ -1,13 +1,13 @@
--- `text_lines::skip_plain` meets its contract.
+-- `line_checks::skip_plain` meets its contract.
 use Prim.Native.Nat.{_-_, _≤_}
 use native.Mathlib.Omega.{arith}
 use lib.ListN.{length}
 use borrow.Author.Tests.{not-false}
-use Rattle.text_lines.specs.LineScan.{Plain}
-use Rattle.text_lines.proofs.PlainLaws.{plain-none, plain-join}
+use Rattle.line_checks.specs.LineEnds.{Plain}
+use Rattle.line_checks.proofs.PlainLaws.{plain-none, plain-join}
 use borrow.Author.Needs.{needs}
-use Rattle.text_lines.proofs.skip_plain.Statement.{statement}
-use Rattle.text_lines.proofs.skip_plain.Tie as tie
+use Rattle.line_checks.proofs.skip_plain.Statement.{statement}
+use Rattle.line_checks.proofs.skip_plain.Tie as tie
 
 abbrev Inv-loop : tie.InvT-loop
 Inv-loop s at p₀ p = (at ≤ p) × (p ≤ length s) × Plain s at p

@@ -1,0 +1,2 @@
+pub mod LinePassing
+mod PlainLaws
