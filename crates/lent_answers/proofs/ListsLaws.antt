@@ -7,8 +7,8 @@ use native.Mathlib.Omega.{arith}
 use lib.ListN.{take}
 use Rattle.lent.specs.LentPlane.{LentPlane}
 use Rattle.policies.specs.LentPolicy.{lentPolicy}
-use Rattle.lines.specs.LentText.{listAt, lentAt}
-use Rattle.lines.specs.declared.Ends.{Ends}
+use Rattle.lent_lists.specs.LentText.{listAt, lentAt}
+use Rattle.lent_lists.specs.declared.Ends.{Ends}
 use Rattle.answers.specs.LentLines.{lentLines}
 use Rattle.outcome_lines.specs.PolicyLines.{recordBytes, policyLines}
 use Rattle.lent_answers.specs.Lines.{linesBy}

@@ -1,12 +1,12 @@
 // What is printed for the lists of a lent plane in a text: its upright sheet, or its record.
-use lines::Ends;
-use lines::PART_MOST;
-use lines::REGION_MOST;
-use lines::ROW_MOST;
+use lent_lists::Ends;
+use lent_lists::PART_MOST;
+use lent_lists::REGION_MOST;
+use lent_lists::ROW_MOST;
 ghost use Prim.Native.Nat.{_+_, _≤_};
 ghost use lib.ListN.{length};
 ghost use Rattle.print.specs.Decimal.{Written};
-ghost use Rattle.lines.specs.LentText.{lentAt, EndsFit};
+ghost use Rattle.lent_lists.specs.LentText.{lentAt, EndsFit};
 ghost use Rattle.lines.specs.Room.{lineBytes};
 ghost use Rattle.lent_answers.specs.Lines.{linesBy};
 
@@ -40,10 +40,10 @@ pub fn put_lent(out: &mut [u8], at: usize, is_table: bool, s: &[u8], e: Ends) ->
     let mut regions = [0u32; REGION_MOST];
     let mut offsets = [0u32; PART_MOST];
     let mut sizes = [0u32; PART_MOST];
-    lines::widen(s, 0, e.rows, &mut rows);
-    lines::widen(s, e.kinds, e.regions, &mut regions);
-    lines::widen(s, e.regions, e.offsets, &mut offsets);
-    lines::widen(s, e.offsets, e.sizes, &mut sizes);
+    lent_lists::widen(s, 0, e.rows, &mut rows);
+    lent_lists::widen(s, e.kinds, e.regions, &mut regions);
+    lent_lists::widen(s, e.regions, e.offsets, &mut offsets);
+    lent_lists::widen(s, e.offsets, e.sizes, &mut sizes);
     let kinds_from = e.rows + 2;
     let kinds_to = e.kinds;
     let bytes_from = e.sizes + 2;

@@ -2,6 +2,4 @@
 pub mod Finding
 pub mod Reading
 pub mod RoundTrip
-pub mod LentTextLaws
-pub mod Widening
 pub mod Examples

@@ -8,11 +8,11 @@ use native.Mathlib.Omega.{arith}
 use lib.ListN.{take, drop}
 use Rattle.model.specs.Limits.{textBytes}
 use Rattle.print.specs.Decimal.{Written}
-use Rattle.lines.specs.LentText.{lentIn, lentAt, listsIn}
+use Rattle.lent_lists.specs.LentText.{lentIn, lentAt, listsIn}
+use Rattle.lent_lists.specs.declared.Ends.{Ends}
+use Rattle.lent_lists.specs.declared.LentLists.{LentLists}
+use Rattle.lent_lists.specs.declared.LentLists.the-variants.{Lists, NoLists}
 use Rattle.lines.specs.Texts.{textOf, textIn}
-use Rattle.lines.specs.declared.Ends.{Ends}
-use Rattle.lines.specs.declared.LentLists.{LentLists}
-use Rattle.lines.specs.declared.LentLists.the-variants.{Lists, NoLists}
 use Rattle.lines.specs.declared.LineText.{LineText}
 use Rattle.lines.specs.declared.LineText.the-variants.{Text, Malformed}
 use Rattle.lent_answers.specs.Lines.{linesBy}

@@ -10,7 +10,7 @@ use Rattle.lent.specs.LentPlane.{LentPlane}
 use Rattle.policies.specs.DrawnPolicy.{walkedPolicy}
 use Rattle.print.specs.Decimal.{Written}
 use Rattle.print.specs.Lines.{lineFeed}
-use Rattle.lines.specs.LentText.{_>>=_, lentIn}
+use Rattle.lent_lists.specs.LentText.{_>>=_, lentIn}
 use Rattle.lines.specs.Texts.{before, textOf}
 use Rattle.drawings.specs.DrawingLines.{drawingLines}
 use Rattle.lent_answers.specs.Lines.{linesBy}

@@ -1,15 +1,15 @@
 // Lines on standard input, each a kind, a count of bytes and the bytes. Prints what the port answers to each, as
 // the judge of the Rust prints it: `split` is a text for the value split, `drawing` a sheet, `plane` a lent plane; `sheet` and
 // `table` are a sheet and a lent plane whose record is asked for.
+use lent_lists::LentLists;
 use lines::LINE_BYTES;
-use lines::LentLists;
 use lines::LineText;
 use model::limits::TEXT_BYTES;
 ghost use mathlib.Core.Path.{_≡_};
 ghost use Prim.Native.Nat.{_+_, _-_, _≤_};
 ghost use lib.ListN.{length, take, drop};
 ghost use Rattle.model.specs.Limits.{textBytes};
-ghost use Rattle.lines.specs.LentText.{lentIn};
+ghost use Rattle.lent_lists.specs.LentText.{lentIn};
 ghost use Rattle.lines.specs.Room.{lineBytes};
 ghost use Rattle.replay.specs.Kinds.{kindOf};
 ghost use Rattle.replay.specs.Answers.{splitAnswer, drawingAnswer, sheetAnswer, lentAnswer, planeAnswer, answerBy, answerOf, AnsweredIn, Replayed, Stopped};
@@ -64,7 +64,7 @@ fn answer_lent(s: &[u8], is_table: bool, out: &mut [u8], at: usize) -> Answered
     requires { ⌜ at + lineBytes ≤ length (now out) ⌝ }
     ensures { λ r. ⌜ AnsweredIn r (lentAnswer «is_table» (lentIn (now (s .entry)))) (now (out .entry)) (now (out .exit)) at ⌝ }
 {
-    match lines::lists_in(s) {
+    match lent_lists::lists_in(s) {
         LentLists::Lists(e) => Answered::Upto(lent_answers::put_lent(out, at, is_table, s, e)),
         LentLists::NoLists => Answered::NoText,
     }

@@ -1,6 +1,6 @@
 -- `replay::answer_lent` meets its contract.
 use mathlib.Core.Path.{refl}
-use Rattle.lines.proofs.LentTextLaws.{lists-fit}
+use Rattle.lent_lists.proofs.LentTextLaws.{lists-fit}
 use Rattle.replay.proofs.LentLaws.{lent-answered, lent-none}
 use native.Mathlib.Omega.{arith}
 use borrow.Author.Needs.{needs}

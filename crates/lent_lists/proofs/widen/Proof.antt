@@ -1,10 +1,10 @@
--- `lines::widen` meets its contract.
+-- `lent_lists::widen` meets its contract.
 use Prim.Native.Nat.{_+_, _-_}
-use Rattle.lines.proofs.Widening.{Widening, widening-start, widening-more, widening-end}
+use Rattle.lent_lists.proofs.Widening.{Widening, widening-start, widening-more, widening-end}
 use native.Mathlib.Omega.{arith}
 use borrow.Author.Needs.{needs}
-use Rattle.lines.proofs.widen.Statement.{statement}
-use Rattle.lines.proofs.widen.Tie as tie
+use Rattle.lent_lists.proofs.widen.Statement.{statement}
+use Rattle.lent_lists.proofs.widen.Tie as tie
 
 abbrev Inv-loop : tie.InvT-loop
 Inv-loop s at end into₀ start i₀ into i = Widening s at end into₀ into i

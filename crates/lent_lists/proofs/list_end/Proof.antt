@@ -1,10 +1,10 @@
--- `lines::list_end` meets its contract.
+-- `lent_lists::list_end` meets its contract.
 use Prim.Native.Nat.{_+_}
-use Rattle.lines.proofs.LentTextLaws.{no-count, too-many, too-long, list-cut}
+use Rattle.lent_lists.proofs.LentTextLaws.{no-count, too-many, too-long, list-cut}
 use native.Mathlib.Omega.{arith}
 use borrow.Author.Needs.{needs}
-use Rattle.lines.proofs.list_end.Statement.{statement}
-use Rattle.lines.proofs.list_end.Tie as tie
+use Rattle.lent_lists.proofs.list_end.Statement.{statement}
+use Rattle.lent_lists.proofs.list_end.Tie as tie
 
 sub-if1 : tie.Need-sub-if1
 sub-if1 c = search needs

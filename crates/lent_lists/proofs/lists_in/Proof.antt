@@ -1,11 +1,11 @@
--- `lines::lists_in` meets its contract.
+-- `lent_lists::lists_in` meets its contract.
 use Rattle.model.specs.Limits.{textBytes}
-use Rattle.lines.specs.LentText.{EndFits, rowMost, regionMost, partMost}
-use Rattle.lines.proofs.LentTextLaws.{Got, got, lost, got-fits, no-rows, no-kinds, no-regions, no-offsets, no-sizes, no-bytes, left-over, all-lists}
+use Rattle.lent_lists.specs.LentText.{EndFits, rowMost, regionMost, partMost}
+use Rattle.lent_lists.proofs.LentTextLaws.{Got, got, lost, got-fits, no-rows, no-kinds, no-regions, no-offsets, no-sizes, no-bytes, left-over, all-lists}
 use native.Mathlib.Omega.{arith}
 use borrow.Author.Needs.{needs}
-use Rattle.lines.proofs.lists_in.Statement.{statement}
-use Rattle.lines.proofs.lists_in.Tie as tie
+use Rattle.lent_lists.proofs.lists_in.Statement.{statement}
+use Rattle.lent_lists.proofs.lists_in.Tie as tie
 
 rows : (c : tie.After-known-told) → Got (c .before .before .before .before .before .args .s .now) rowMost 0 (c .before .rows .given .0 .0)
 rows c = got (c .before .before .before .before .before .args .s .now) _ (c .before .before .before .list-end .ensures .0) (c .before .rows .given .1)

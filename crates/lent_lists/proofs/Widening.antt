@@ -6,7 +6,7 @@ use native.Mathlib.Numerals.{add-one}
 use native.Mathlib.Omega.{arith}
 use lib.ListN.{length, getD, take, drop, set, length-set, length-drop}
 use lib.Seq.{take-suc, take-suc-set, getD-drop}
-use Rattle.lines.specs.LentText.{listAt}
+use Rattle.lent_lists.specs.LentText.{listAt}
 
 -- the first i bytes of a list are widened
 pub record Widening (s : List ℕ) (at end : ℕ) (d o : List ℕ) (i : ℕ) : Type 0 where

@@ -9,12 +9,12 @@ use lib.ListN.{length, getD, drop, length-drop, drop-of-length-le}
 use lib.Seq.{drop-drop}
 use Rattle.lists.proofs.Parts.{at-cons}
 use Rattle.model.specs.Limits.{textBytes}
-use Rattle.lines.specs.LentText.{cutAt, counted, rowMost, regionMost, partMost, lentIn, listAt, cutIn, EndFits, EndWithin, lentAt, EndsFit, ListsWithin}
-use Rattle.lines.specs.declared.Ends.{Ends}
-use Rattle.lines.specs.declared.LentLists.{LentLists}
-use Rattle.lines.specs.declared.LentLists.the-variants.{Lists}
-use Rattle.lines.specs.declared.ListEnd.{ListEnd}
-use Rattle.lines.specs.declared.ListEnd.the-variants.{EndsAt, NoList}
+use Rattle.lent_lists.specs.LentText.{cutAt, counted, rowMost, regionMost, partMost, lentIn, listAt, cutIn, EndFits, EndWithin, lentAt, EndsFit, ListsWithin}
+use Rattle.lent_lists.specs.declared.Ends.{Ends}
+use Rattle.lent_lists.specs.declared.LentLists.{LentLists}
+use Rattle.lent_lists.specs.declared.LentLists.the-variants.{Lists}
+use Rattle.lent_lists.specs.declared.ListEnd.{ListEnd}
+use Rattle.lent_lists.specs.declared.ListEnd.the-variants.{EndsAt, NoList}
 
 few : (most : ℕ) (t : List ℕ) → length t < 2 → counted most t ≡ none
 unfolding counted

@@ -8,11 +8,11 @@ use lib.ListN.{length, take, drop}
 use Rattle.lists.specs.Choose.{choose}
 use Rattle.model.specs.Limits.{textBytes}
 use Rattle.lent.specs.LentPlane.{LentPlane}
-use Rattle.lines.specs.declared.Ends.{Ends}
-use Rattle.lines.specs.declared.LentLists.{LentLists}
-use Rattle.lines.specs.declared.LentLists.the-variants.{Lists, NoLists}
-use Rattle.lines.specs.declared.ListEnd.{ListEnd}
-use Rattle.lines.specs.declared.ListEnd.the-variants.{EndsAt, NoList}
+use Rattle.lent_lists.specs.declared.Ends.{Ends}
+use Rattle.lent_lists.specs.declared.LentLists.{LentLists}
+use Rattle.lent_lists.specs.declared.LentLists.the-variants.{Lists, NoLists}
+use Rattle.lent_lists.specs.declared.ListEnd.{ListEnd}
+use Rattle.lent_lists.specs.declared.ListEnd.the-variants.{EndsAt, NoList}
 
 -- a list, and what stands behind it
 pub record Cut : Type 0 where

@@ -1,0 +1,4 @@
+-- Laws of the lists of a lent plane in a text.
+pub mod LentTextLaws
+pub mod Widening
+pub mod Examples
