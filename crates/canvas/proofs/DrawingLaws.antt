@@ -11,10 +11,10 @@ use Rattle.model.specs.declared.Rect.{Rect}
 use Rattle.model.specs.Refusals.{Reading}
 use Rattle.model.specs.declared.Refusal.{Refusal}
 use Rattle.model.specs.declared.Refusal.the-variants.{InvalidUtf8}
-use Rattle.layers.specs.Body.{bodyPicture}
+use Rattle.body_layer.specs.Body.{bodyPicture}
 use Rattle.grid_layer.specs.Grid.{gridPicture}
-use Rattle.layers.specs.Sizes.{BodyIn}
-use Rattle.layers.specs.Thin.{thinPicture}
+use Rattle.thin_layer.specs.Sizes.{BodyIn}
+use Rattle.thin_layer.specs.Thin.{thinPicture}
 use Rattle.outline.specs.Outline.{outlineOf}
 use Rattle.outline.specs.declared.Outline.{Outline}
 use Rattle.outline.proofs.InsideLaws.{outline-inside}

@@ -7,10 +7,10 @@ use scan::Scanned;
 use utf8::Checked;
 ghost use mathlib.Core.Path.{_≡_};
 ghost use Rattle.lists.specs.Picture.{canvas};
-ghost use Rattle.layers.specs.Body.{bodyPicture};
+ghost use Rattle.body_layer.specs.Body.{bodyPicture};
 ghost use Rattle.grid_layer.specs.Grid.{gridPicture};
-ghost use Rattle.layers.specs.Sizes.{LayersOf, BodyIn};
-ghost use Rattle.layers.specs.Thin.{thinPicture};
+ghost use Rattle.thin_layer.specs.Sizes.{LayersOf, BodyIn};
+ghost use Rattle.thin_layer.specs.Thin.{thinPicture};
 ghost use Rattle.sheet_rows.specs.Rows.{rowsAt};
 ghost use Rattle.utf8.specs.Utf8.{onText};
 ghost use Rattle.canvas.specs.Layers.{sheetOf};
@@ -37,8 +37,8 @@ fn make_layers(
     ensures body { λ _. ⌜ canvas width rows (now (bodies .exit)) ≡ bodyPicture r (thinPicture width rows (canvas width rows (now (text .entry)))) (canvas width rows (now (bodies .entry))) ⌝ }
     ensures grid { λ _. ⌜ canvas width rows (now (grid .exit)) ≡ gridPicture r (bodyPicture r (thinPicture width rows (canvas width rows (now (text .entry)))) (canvas width rows (now (bodies .entry)))) ⌝ }
 {
-    layers::make_thin(text, thins, bodies, grid, width, rows);
-    layers::make_body(text, thins, bodies, grid, width, rows, r);
+    thin_layer::make_thin(text, thins, bodies, grid, width, rows);
+    body_layer::make_body(text, thins, bodies, grid, width, rows, r);
     grid_layer::make_grid(text, thins, bodies, grid, width, rows, r);
 }
 

@@ -36,10 +36,10 @@ use Rattle.walks.specs.Frame.{frameOf}
 use Rattle.walks.specs.Walk.{walkFrom}
 use Rattle.frames.specs.Body.{bodyOf}
 use Rattle.outline.specs.Outline.{searchFrom, namedBy, tableOf, outlineBy}
-use Rattle.layers.specs.Body.{topOf, bodyCode, shadedCode}
+use Rattle.body_layer.specs.Body.{topOf, bodyCode, shadedCode}
 use Rattle.grid_layer.specs.Grid.{carriedCode}
 use Rattle.grid_layer.specs.Passes.{lineCarried}
-use Rattle.layers.specs.Thin.{thinOf}
+use Rattle.thin_layer.specs.Thin.{thinOf}
 use Rattle.regions.specs.Regions.{regionsBy}
 use Rattle.lookup.specs.Lookup.{regionFrom}
 use Rattle.step.specs.PlaneStep.{planeBy}

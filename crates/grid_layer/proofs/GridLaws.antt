@@ -11,10 +11,10 @@ use Rattle.lists.proofs.RectLaws.{by-rows, by-columns}
 use Rattle.model.specs.declared.Rect.{Rect}
 use Rattle.grid_layer.specs.Grid.{across, down, carriedAt, rowsCarried, columnsCarried, gridPicture}
 use Rattle.grid_layer.specs.Passes.{lineCarried, linesCarried}
-use Rattle.layers.specs.Sizes.{BodyIn}
+use Rattle.thin_layer.specs.Sizes.{BodyIn}
 use Rattle.grid_layer.specs.declared.Stroke.{Stroke}
-use Rattle.layers.proofs.SizeLaws.{body-fits}
-use Rattle.layers.proofs.CanvasLaws.{pass-is, copied-canvas}
+use Rattle.body_layer.proofs.SizeLaws.{body-fits}
+use Rattle.body_layer.proofs.CanvasLaws.{pass-is, copied-canvas}
 use Rattle.grid_layer.proofs.CarryLaws.{carried-ext, line-law}
 
 -- a line of the canvas, whose kth character stands in column u k of row v k

@@ -9,7 +9,7 @@ ghost use lib.ListN.{length, getD, set, take, drop};
 ghost use Rattle.lists.specs.Line.{placed};
 ghost use Rattle.lists.specs.OneOf.{anyAt};
 ghost use Rattle.lists.specs.Picture.{canvas};
-ghost use Rattle.layers.specs.Sizes.{LayersOf, BodyIn};
+ghost use Rattle.thin_layer.specs.Sizes.{LayersOf, BodyIn};
 ghost use Rattle.grid_layer.specs.Grid.{carriedCode, carriedLayers, gridPicture};
 ghost use Rattle.grid_layer.specs.Passes.{LineStays, lineCarried, linesCarried};
 

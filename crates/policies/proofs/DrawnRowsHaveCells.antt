@@ -14,7 +14,7 @@ use Rattle.lists.proofs.PictureLaws.{within-in}
 use Rattle.lists.proofs.Tests.{true-false}
 use Rattle.model.specs.Box.{┬, ╥}
 use Rattle.cells.specs.Plane.{TextPlane}
-use Rattle.layers.specs.Thin.{thinOf}
+use Rattle.thin_layer.specs.Thin.{thinOf}
 use Rattle.policies.proofs.TopSideLaws.{tee-in-grid}
 use Rattle.outline.specs.declared.Crossing.{Crossing}
 use Rattle.outline.specs.declared.Crossing.the-variants.{At, Nowhere}

@@ -11,7 +11,7 @@ use Rattle.lists.specs.Picture.{Picture, inRect}
 use Rattle.lists.proofs.RectLaws.{rect-is}
 use Rattle.model.specs.Box.{┬}
 use Rattle.model.specs.declared.Rect.{Rect}
-use Rattle.layers.specs.Body.{topOf, bodyCode, bodyPicture}
+use Rattle.body_layer.specs.Body.{topOf, bodyCode, bodyPicture}
 use Rattle.grid_layer.specs.Grid.{across, down, carriedCode, carriedAt, rowsCarried, columnsCarried, gridPicture}
 use Rattle.grid_layer.specs.declared.Stroke.{Stroke}
 

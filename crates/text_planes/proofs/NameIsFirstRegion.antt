@@ -16,7 +16,7 @@ use Rattle.lists.proofs.PictureLaws.{within-in}
 use Rattle.lists.proofs.Tests.{by-flag, both, true-false}
 use Rattle.model.specs.Limits.{regionCount}
 use Rattle.model.specs.declared.Rect.{Rect}
-use Rattle.layers.specs.Thin.{thinOf, thinPicture}
+use Rattle.thin_layer.specs.Thin.{thinOf, thinPicture}
 use Rattle.regions.specs.Regions.{isCorner, cornersOf, addRegion, regionsBy, regionsOf}
 use Rattle.walks.specs.Frame.{Frame, Starts, frameOf}
 use Rattle.walks.specs.Kinds.{thin, name}

@@ -1,7 +1,7 @@
 -- `canvas::make_layers` meets its contract.
 use mathlib.Core.Path.{ap, _∙_}
 use Rattle.lists.specs.Picture.{Picture, canvas}
-use Rattle.layers.specs.Body.{bodyPicture}
+use Rattle.body_layer.specs.Body.{bodyPicture}
 use Rattle.grid_layer.specs.Grid.{gridPicture}
 use borrow.Author.Needs.{needs}
 use Rattle.canvas.proofs.make_layers.Statement.{statement}

@@ -6,8 +6,8 @@ use native.Mathlib.Omega.{arith}
 use Rattle.lists.specs.Line.{storeAt}
 use Rattle.grid_layer.specs.Grid.{carriedCode}
 use Rattle.grid_layer.proofs.CarryLaws.{line-carried, line-stays}
-use Rattle.layers.proofs.SizeLaws.{Inside}
-use Rattle.layers.proofs.Turning.{Turning, turning-start, turning-more, turning-end}
+use Rattle.body_layer.proofs.SizeLaws.{Inside}
+use Rattle.thin_layer.proofs.Turning.{Turning, turning-start, turning-more, turning-end}
 use Rattle.grid_layer.proofs.carry_line.Statement.{statement}
 use Rattle.grid_layer.proofs.carry_line.Tie as tie
 

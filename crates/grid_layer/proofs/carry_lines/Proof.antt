@@ -4,8 +4,8 @@ use Prim.Native.Nat.{ℕ, _-_, _<_}
 use native.Mathlib.Omega.{arith}
 use Rattle.lists.specs.Line.{placed}
 use Rattle.grid_layer.specs.Passes.{lineCarried}
-use Rattle.layers.proofs.SizeLaws.{Inside}
-use Rattle.layers.proofs.Turning.{Turning, turning-start, turning-more, turning-end}
+use Rattle.body_layer.proofs.SizeLaws.{Inside}
+use Rattle.thin_layer.proofs.Turning.{Turning, turning-start, turning-more, turning-end}
 use Rattle.grid_layer.proofs.carry_lines.Statement.{statement}
 use Rattle.grid_layer.proofs.carry_lines.Tie as tie
 

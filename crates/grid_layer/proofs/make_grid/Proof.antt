@@ -4,8 +4,8 @@ use mathlib.Core.List.{List}
 use Prim.Native.Nat.{ℕ, _+_, _*_, _<_}
 use native.Mathlib.Omega.{arith}
 use lib.ListN.{length}
-use Rattle.layers.specs.Sizes.{LayersOf}
-use Rattle.layers.proofs.SizeLaws.{layers-again, corner-in, rows-in, columns-in}
+use Rattle.thin_layer.specs.Sizes.{LayersOf}
+use Rattle.body_layer.proofs.SizeLaws.{layers-again, corner-in, rows-in, columns-in}
 use Rattle.grid_layer.proofs.CarryLaws.{across-stays, down-stays}
 use Rattle.grid_layer.proofs.GridLaws.{grid-canvas}
 use Rattle.grid_layer.proofs.make_grid.Statement.{statement}

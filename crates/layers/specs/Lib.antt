@@ -1,3 +1,0 @@
-pub mod Thin
-pub mod Body
-pub mod Sizes

@@ -1,0 +1,4 @@
+-- Laws of the THIN pass.
+pub mod Turning
+pub mod ThinLaws
+pub mod Examples
