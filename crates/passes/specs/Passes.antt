@@ -1,4 +1,4 @@
--- Cells of a sheet that are all regions: every refusal in its order.
+-- Cells of a sheet that are all regions: document 01, refusals 18 and 19 (cell out of range, not a region), in their order.
 use Prim.Native.Nat.{ℕ, _-_}
 use lib.ListN.{length}
 use Rattle.lists.specs.Answer.{ok, _>>=_, _>>_}

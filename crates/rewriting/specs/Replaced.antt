@@ -1,4 +1,4 @@
--- One text put for another everywhere.
+-- One text put for another everywhere: the value split of document 01, `replace` in `get_allowed_and_default_output_values` of the Rust.
 use mathlib.Core.List.{List, [], _∷_, _++_}
 use Prim.Native.Nat.{ℕ, zero, suc, _-_}
 use lib.ListN.{length}
