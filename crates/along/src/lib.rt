@@ -1,4 +1,5 @@
 // Walks along the lines of a drawing, each kind with its own characters.
+#![tactic(auto)]
 pub mod sets;
 
 ghost use Rattle.std.specs.Prelude.{◌≡◌, length};
@@ -16,7 +17,7 @@ use walks::{Characters, Direction, Set, Walked};
 
 // What is walked along: the frames of THIN, those of GRID, the box of the name, the double lines to the sides of the
 // body, and those to an annotation crossing.
-#[derive(Drop)]
+#[derive(Clone, Copy)]
 pub enum Lines {
     Region,
     Rectangle,

@@ -1,4 +1,5 @@
 // The layer BODY of a canvas, from THIN.
+#![tactic(auto)]
 ghost use Rattle.std.specs.Prelude.{◌≡◌, ◌+◌, ◌<◌, ◌≤◌, ◌^◌, length, get_or, set};
 ghost use Rattle.lists.specs.Line.{store_at};
 ghost use Rattle.lists.specs.Picture.{canvas};

@@ -1,4 +1,5 @@
 // From the bytes of a sheet to its outline and its four layers.
+#![tactic(auto)]
 ghost use Rattle.std.specs.Prelude.{◌≡◌};
 ghost use Rattle.lists.specs.Picture.{canvas};
 ghost use Rattle.body_layer.specs.Body.{body_picture};
@@ -16,7 +17,7 @@ use scan::Scanned;
 use utf8::Checked;
 
 // The canvas's rows and columns, where the text behind the sheet starts, and the outline; or a refusal.
-#[derive(Drop)]
+#[derive(Clone, Copy)]
 pub enum Drawing {
     Drawn(usize, usize, usize, Outline),
     NotDrawn(Refusal),

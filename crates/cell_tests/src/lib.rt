@@ -1,4 +1,5 @@
 // The regions of the cells of an upright sheet, and tests on them.
+#![tactic(auto)]
 ghost use Rattle.std.specs.Prelude.{◌≡◌, ◌+◌, ◌≤◌, ◌<◌};
 ghost use Rattle.model.specs.Limits.{plane_rows};
 ghost use Rattle.cells.specs.Plane.{plane_in, PlaneFits};
@@ -8,7 +9,7 @@ ghost use Rattle.cell_tests.specs.Told.{region_in, test_in};
 use model::{CellRegion, Refusal};
 
 // A cell's region, or why it has none.
-#[derive(Drop)]
+#[derive(Clone, Copy)]
 pub enum CellRead {
     Number(usize),
     NotRead(Refusal),
@@ -32,7 +33,7 @@ pub fn region_at(plane: &[u32], rows: usize, y: usize, x: usize) -> CellRead
 }
 
 // A fact of cells, or why it cannot be told.
-#[derive(Drop)]
+#[derive(Clone, Copy)]
 pub enum Test {
     Is(bool),
     NotTold(Refusal),

@@ -1,4 +1,5 @@
 // The clause rules on an upright sheet: every refusal in its order, and where everything stands.
+#![tactic(auto)]
 ghost use Rattle.std.specs.Prelude.{◌≡◌, ◌+◌, ◌≤◌, ◌<◌};
 ghost use Rattle.model.specs.Limits.{plane_rows, plane_cells};
 ghost use Rattle.cells.specs.Plane.{plane_in, row_in, PlaneFits};
@@ -17,7 +18,7 @@ use model::{Cell, Refusal};
 use passes::Pass;
 
 // A row and a column, or no place.
-#[derive(Drop)]
+#[derive(Clone, Copy)]
 enum Spot {
     At(usize, usize),
     Nowhere,
@@ -57,14 +58,14 @@ fn spot_of(plane: &[u32], rows: usize, kind: Cell) -> Spot
 }
 
 // How many annotations there are, and the column and the row where their entries start.
-#[derive(Drop)]
+#[derive(Clone, Copy)]
 pub struct Notes {
     pub count: usize,
     pub col: usize,
     pub row: usize,
 }
 
-#[derive(Drop)]
+#[derive(Clone, Copy)]
 enum Noted {
     Are(Notes),
     NotNoted(Refusal),
@@ -124,7 +125,7 @@ fn notes_at(plane: &[u32], rows: usize, spot: Spot, c: usize) -> Noted
 }
 
 // Where everything stands on an upright sheet of h = height clause rows.
-#[derive(Drop)]
+#[derive(Clone, Copy)]
 pub struct Shape {
     pub inputs: usize,
     pub outputs: usize,
@@ -134,7 +135,7 @@ pub struct Shape {
     pub notes: Notes,
 }
 
-#[derive(Drop)]
+#[derive(Clone, Copy)]
 pub enum Shaped {
     Has(Shape),
     NotShaped(Refusal),

@@ -1,4 +1,5 @@
 // Code points of a text in UTF-8: checked, and known to stand at a place.
+#![tactic(auto)]
 ghost use Rattle.std.specs.Prelude.{◌≡◌, drop};
 ghost use Rattle.utf8.specs.Utf8.{decode, StandsAt, check, checked};
 ghost use Rattle.utf8.specs.declared.Decoded.TheVariants.{Char};
@@ -27,7 +28,7 @@ pub fn validate(s: &[u8]) -> Checked
 }
 
 // A code point with its number of bytes.
-#[derive(Drop)]
+#[derive(Clone, Copy)]
 pub struct CodePoint {
     pub code: u32,
     pub bytes: usize,

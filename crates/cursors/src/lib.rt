@@ -1,4 +1,5 @@
 // A cursor that is lent, and the walks that move it.
+#![tactic(auto)]
 ghost use Rattle.std.specs.Prelude.{◌≡◌, length};
 ghost use Rattle.lists.specs.Picture.{canvas};
 ghost use Rattle.walks.specs.Walk.{steps_in};
@@ -12,7 +13,7 @@ use model::Point;
 use walks::{Direction, Walked};
 
 // The place after a walk, which is the old one where it was refused, and how it ended.
-#[derive(Drop)]
+#[derive(Clone, Copy)]
 struct Moved {
     x: usize,
     y: usize,

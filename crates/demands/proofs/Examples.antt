@@ -4,10 +4,10 @@ use Rattle.lists.specs.Picture.{within}
 use Rattle.lists.specs.Run.{run}
 use Rattle.hit_policies.specs.Letters.{same_text, by_letters}
 use Rattle.numerals.specs.RuleNumbers.{digits, number_of}
-use Rattle.unicode.specs.Lines.{lines, texts, last_of}
-use Rattle.unicode.specs.Trim.{trim_start, trim_end, trim, trim_start_utf8, trim_utf8}
+use Rattle.white_space.specs.Lines.{lines, texts, last_of}
+use Rattle.white_space.specs.Trim.{trim_start, trim_end, trim, trim_start_utf8, trim_utf8}
 use Rattle.utf8.specs.Utf8.{more, by, decode, check, read, encode, encodes}
-use Rattle.unicode.specs.White.{among}
+use Rattle.white_space.specs.White.{among}
 use Rattle.emphasis.specs.Commas.{parts}
 use Rattle.emphasis.specs.Emphasis.{starts_with, ends_with, strip_start, strip_end, strip, emphasised, first_marked}
 use Rattle.rewriting.specs.Replaced.{replace_all}

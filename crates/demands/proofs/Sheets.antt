@@ -9,10 +9,10 @@ use Rattle.lists.specs.Answer.{ok, each, those}
 use Rattle.lists.specs.OneOf.{one_of, any_at}
 use Rattle.lists.specs.Picture.{within, in_rect}
 use Rattle.lists.specs.Run.{run}
-use Rattle.unicode.specs.Lines.{lines, texts, last_of}
-use Rattle.unicode.specs.Trim.{trim_start, trim_end, trim}
+use Rattle.white_space.specs.Lines.{lines, texts, last_of}
+use Rattle.white_space.specs.Trim.{trim_start, trim_end, trim}
 use Rattle.utf8.specs.Utf8.{more, by, decode, check, read, encode, encodes}
-use Rattle.unicode.specs.White.{among}
+use Rattle.white_space.specs.White.{among}
 use Rattle.hit_policies.specs.Letters.{same_text, by_letters}
 use Rattle.numerals.specs.RuleNumbers.{digits, number_of}
 use Rattle.placement.specs.Orientation.{holds_in, holds, oriented_of}

@@ -1,4 +1,5 @@
 // The plane of a drawing.
+#![tactic(auto)]
 ghost use Rattle.std.specs.Prelude.{◌≡◌};
 ghost use Rattle.drawn_planes.specs.DrawnTable.{named_plane, drawn_in, DrawnHeld, DrawnRoom};
 
@@ -7,7 +8,7 @@ use model::Refusal;
 use text_planes::PlaneRead;
 
 // So many rows of a plane, with so many regions, and whether the first of these is the name's; or a refusal.
-#[derive(Drop)]
+#[derive(Clone, Copy)]
 pub enum DrawnRows {
     Rows(usize, usize, bool),
     NotDrawn(Refusal),

@@ -6,7 +6,7 @@ use native.Mathlib.Omega.{arith}
 use borrow.Author.Tests.{eq-eqb, ne_eqb, lt-ltb, le-ltb}
 use lib.ListN.{length, get_or, take, drop, drop_of_length-le}
 use Rattle.lists.proofs.Parts.{at_cons, part_add}
-use Rattle.unicode.specs.Lines.{join}
+use Rattle.white_space.specs.Lines.{join}
 use Rattle.emphasis.specs.Commas.{comma, parts}
 use Rattle.emphasis.specs.Found.{PartEnd}
 

@@ -9,7 +9,7 @@ use lib.ListN.{length, take, drop, length-drop}
 use lib.Seq.{length-take-le}
 use Rattle.lists.proofs.Parts.{part_part}
 use Rattle.lists.proofs.Tests.{by_flag, true_false}
-use Rattle.unicode.specs.Trim.{trim_start_utf8, trim_utf8, PartIn}
+use Rattle.white_space.specs.Trim.{trim_start_utf8, trim_utf8, PartIn}
 use Rattle.emphasis.specs.Commas.{parts}
 use Rattle.emphasis.specs.Emphasis.{Choice, plain, marked, marks, placed, or_else, starts_with, ends_with, strip_start, strip, emphasised, first_marked, choice_of}
 use Rattle.emphasis.specs.Found.{parts_behind, PartEnd, seen, MarkOf, FoundIn}

@@ -1,7 +1,7 @@
 -- A text cut at commas, as `split(",")` of the Rust.
 use Rattle.std.specs.Prelude.{List, [], ◌∷◌, ℕ, eqb}
 use Rattle.lists.specs.Choose.{choose}
-use Rattle.unicode.specs.Lines.{join}
+use Rattle.white_space.specs.Lines.{join}
 
 abbrev pub comma : ℕ
 comma = 0x2C

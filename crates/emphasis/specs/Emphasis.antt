@@ -1,7 +1,7 @@
 -- Emphasis: the marks ** __ * _ ` of document 01, and `utils.rs` of the Rust.
 use Rattle.std.specs.Prelude.{Bool, true, false, ◌&&◌, List, [], ◌∷◌, ℕ, zero, suc, ◌+◌, ◌-◌, eqb, leb, length, take, drop}
 use Rattle.lists.specs.Choose.{choose}
-use Rattle.unicode.specs.Trim.{trim_start_utf8, trim_utf8}
+use Rattle.white_space.specs.Trim.{trim_start_utf8, trim_utf8}
 use Rattle.emphasis.specs.Commas.{parts}
 
 -- s starts with p

@@ -1,4 +1,5 @@
 // The parts of a list between commas, and the first that stands in emphasis: its marked default.
+#![tactic(auto)]
 ghost use Rattle.std.specs.Prelude.{◌&&◌, ◌≡◌, ◌-◌, ◌≤◌, ◌<◌, length, take, drop};
 ghost use Rattle.emphasis.specs.Emphasis.{starts_with, ends_with, strip_start, strip_end, strip, marks, emphasised, marked};
 ghost use Rattle.emphasis.specs.Found.{PartEnd, MarkOf, FoundIn};
@@ -75,7 +76,7 @@ fn is_marked(p: &[u8], e: &[u8]) -> bool
 }
 
 // Whether a part stands in emphasis, and where in it its bare text stands.
-#[derive(Drop)]
+#[derive(Clone, Copy)]
 struct Mark {
     hit: bool,
     from: usize,
@@ -138,7 +139,7 @@ fn part_end(s: &[u8], at: usize) -> usize
 }
 
 // The first part in emphasis: the part, and its bare text from a up to b.
-#[derive(Drop)]
+#[derive(Clone, Copy)]
 pub struct Found {
     pub hit: bool,
     pub from: usize,
@@ -153,7 +154,7 @@ pub fn first_marked(s: &[u8]) -> Found
     let mut at: usize = 0;
     while at <= s.len() {
         let end = part_end(s, at);
-        let t = unicode::trim_utf8_part(s, at, end);
+        let t = white_space::trim_utf8_part(s, at, end);
         let from = t.from;
         let to = t.to;
         let m = mark_of(&s[from..to]);

@@ -1,4 +1,5 @@
 // How a call ends: its outcome, its work slices cleared, and its record.
+#![tactic(auto)]
 ghost use Rattle.std.specs.Prelude.{◌≡◌};
 ghost use Rattle.lists.specs.Zeros.{zeros};
 

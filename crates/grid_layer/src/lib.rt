@@ -1,4 +1,5 @@
 // The layer GRID from BODY: the lines of the body are carried across it.
+#![tactic(auto)]
 ghost use Rattle.std.specs.Prelude.{◌++◌, ◌≡◌, ℕ, ◌+◌, ◌*◌, ◌<◌, ◌≤◌, ◌^◌, eqb, length, get_or, set, take, drop};
 ghost use Rattle.lists.specs.Line.{placed};
 ghost use Rattle.lists.specs.OneOf.{any_at};
@@ -11,7 +12,7 @@ use model::Rect;
 use model::box_drawing::*;
 
 // The characters of a direction: the line that is carried on, the line that it crosses, and its two ends.
-#[derive(Drop)]
+#[derive(Clone, Copy)]
 pub struct Stroke {
     pub line: u32,
     pub crossed: u32,

@@ -1,11 +1,12 @@
 // The hit policy that a text is.
+#![tactic(auto)]
 ghost use Rattle.std.specs.Prelude.{◌≡◌, [], ◌∷◌};
 ghost use Rattle.hit_policies.specs.Letters.{policy_of, policy_found};
 
 use model::{BuiltinAggregator, HitPolicy};
 
 // A text's hit policy, if it is one.
-#[derive(Drop)]
+#[derive(Clone, Copy)]
 pub enum FoundPolicy {
     Policy(HitPolicy),
     NoPolicy,

@@ -1,4 +1,5 @@
 // What the output clauses of an upright sheet have: every refusal in its order.
+#![tactic(auto)]
 ghost use Rattle.std.specs.Prelude.{◌≡◌, ◌+◌, ◌≤◌};
 ghost use Rattle.cells.specs.Plane.{plane_in, PlaneFits};
 ghost use Rattle.layouts.specs.Layouts.{one_layout, named_layout, labelled_layout, many_layout, layout_of};
@@ -9,14 +10,14 @@ use model::Refusal;
 use passes::Pass;
 
 // What the output clauses have.
-#[derive(Drop)]
+#[derive(Clone, Copy)]
 pub struct Layout {
     pub labelled: bool,
     pub named: bool,
     pub valued: bool,
 }
 
-#[derive(Drop)]
+#[derive(Clone, Copy)]
 pub enum LaidOut {
     As(Layout),
     NotLaidOut(Refusal),

@@ -7,7 +7,7 @@ use borrow.Author.Tests.{le-leb, lt-leb, leb-true}
 use lib.Dec.{leb}
 use lib.ListN.{length, get_or, take, drop}
 use Rattle.lists.proofs.Tests.{by_flag, choose_off, true_false}
-use Rattle.unicode.specs.Trim.{PartIn, trim_utf8}
+use Rattle.white_space.specs.Trim.{PartIn, trim_utf8}
 use Rattle.utf8.specs.Utf8.{checked, on_text}
 use Rattle.utf8.specs.declared.Checked.{Checked}
 use Rattle.utf8.specs.declared.Checked.TheVariants.{Valid, Invalid}

@@ -9,7 +9,7 @@ use Rattle.model.specs.Limits.{plane_rows, plane_cells, region_count, text_bytes
 use Rattle.model.specs.Refusals.{Reading}
 use Rattle.model.specs.declared.Cell.{Cell}
 use Rattle.model.specs.declared.Refusal.TheVariants.{LentPlaneMalformed}
-use Rattle.unicode.specs.Trim.{trim_utf8}
+use Rattle.white_space.specs.Trim.{trim_utf8}
 use Rattle.utf8.specs.Utf8.{checked, on_text}
 use Rattle.cells.specs.Plane.{Plane, TextPlane}
 

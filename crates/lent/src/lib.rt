@@ -1,10 +1,11 @@
 // A lent plane: its check (26), and its cells and texts in the slices that the reader works with.
+#![tactic(auto)]
 ghost use Rattle.std.specs.Prelude.{◌≡◌, ◌+◌, ◌*◌, ◌^◌, ◌≤◌, ◌<◌, leb, length, get_or, take, drop};
 ghost use Rattle.lists.specs.Run.{build};
 ghost use Rattle.model.specs.Cells.{cell_of_kind};
 ghost use Rattle.model.specs.Limits.{plane_rows, plane_cells, plane_size};
 ghost use Rattle.cells.specs.Plane.{cells_in, plane_in, PlaneFits, KeptBefore};
-ghost use Rattle.unicode.specs.Trim.{trim_utf8};
+ghost use Rattle.white_space.specs.Trim.{trim_utf8};
 ghost use Rattle.cells.specs.Spans.{texts_in};
 ghost use Rattle.lent.specs.LentPlane.{sum, all_at, known_cell, good_part, within_limits, counts_agree, cells_known, parts_good, well_formed, cut, lent_of};
 ghost use Rattle.lent.specs.Held.{CellsGood, RowsGood, PartsGood, SpansIn, Room, loaded_in, LoadedHeld};
@@ -207,7 +208,7 @@ fn load_texts(offsets: &[u32], sizes: &[u32], bytes: &[u8], spans: &mut [u32])
     while k < offsets.len() {
         let from = offsets[k] as usize;
         let to = from + sizes[k] as usize;
-        let part = unicode::trim_utf8_part(bytes, from, to);
+        let part = white_space::trim_utf8_part(bytes, from, to);
         spans[k * 2] = part.from as u32;
         spans[k * 2 + 1] = (part.to - part.from) as u32;
         k += 1;
@@ -215,7 +216,7 @@ fn load_texts(offsets: &[u32], sizes: &[u32], bytes: &[u8], spans: &mut [u32])
 }
 
 // So many rows stand in the slice, or why they cannot.
-#[derive(Drop)]
+#[derive(Clone, Copy)]
 pub enum Loaded {
     Rows(usize),
     NotLoaded(Refusal),

@@ -1,4 +1,5 @@
 // The lists of a lent plane in a text: where they end, and their bytes as wider numbers.
+#![tactic(auto)]
 ghost use Rattle.std.specs.Prelude.{◌≡◌, ◌+◌, ◌-◌, ◌≤◌, length, take, drop};
 ghost use Rattle.lent_lists.specs.LentText.{counted, cut_in, EndWithin, lent_in, list_at, lists_in, ListsWithin};
 
@@ -12,7 +13,7 @@ pub const REGION_MOST: usize = 4500;
 pub const PART_MOST: usize = 1100;
 
 // Where a list behind its count ends, or that there is none.
-#[derive(Drop)]
+#[derive(Clone, Copy)]
 pub enum ListEnd {
     EndsAt(usize),
     NoList,
@@ -38,7 +39,7 @@ fn list_end(s: &[u8], at: usize, most: usize) -> ListEnd
 }
 
 // Where the six lists of a lent plane end.
-#[derive(Drop)]
+#[derive(Clone, Copy)]
 pub struct Ends {
     pub rows: usize,
     pub kinds: usize,
@@ -48,7 +49,7 @@ pub struct Ends {
     pub bytes: usize,
 }
 
-#[derive(Drop)]
+#[derive(Clone, Copy)]
 pub enum LentLists {
     Lists(Ends),
     NoLists,

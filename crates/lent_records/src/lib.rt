@@ -1,4 +1,5 @@
 // The record of a lent plane. The work slices are left as they come: the entry clears them.
+#![tactic(auto)]
 ghost use Rattle.std.specs.Prelude.{◌≡◌, length};
 ghost use Rattle.recognizer.specs.Told.{table_read};
 ghost use Rattle.tables.specs.NamedTable.{named_table, AnswerHeld};

@@ -5,7 +5,7 @@ use Prim.Native.Nat.{ℕ, ◌+◌, ◌≤◌}
 use native.Mathlib.Omega.{arith}
 use lib.ListN.{length, drop}
 use borrow.Author.Tests.{eq-eqb, ne_eqb}
-use Rattle.unicode.specs.Lines.{after, ValidTo}
+use Rattle.white_space.specs.Lines.{after, ValidTo}
 use Rattle.line_checks.specs.LineEnds.{NextFrom}
 use Rattle.utf8.specs.Utf8.{codes, decode, SameCheck}
 use Rattle.utf8.specs.declared.Decoded.TheVariants.{Char}

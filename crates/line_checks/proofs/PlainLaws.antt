@@ -13,7 +13,7 @@ use Rattle.utf8.specs.Utf8.{decode, codes, check, encode}
 use Rattle.utf8.specs.declared.Decoded.TheVariants.{Char}
 use Rattle.utf8.proofs.Utf8Laws.{decode-at, row1, check-at, codes_at_lem, encode1}
 use Rattle.utf8.proofs.Inverse.{decode-size, encode-decode}
-use Rattle.unicode.specs.Lines.{after}
+use Rattle.white_space.specs.Lines.{after}
 use Rattle.line_checks.specs.LineEnds.{Plain}
 use Rattle.line_checks.proofs.LinePassing.{Passing, after_more}
 

@@ -1,7 +1,7 @@
 -- What the functions that seek the end of a line answer.
 use Rattle.std.specs.Prelude.{List, ◌≡◌, ℕ, ◌≤◌, ◌<◌, length, get_or, drop}
 use Rattle.utf8.specs.Utf8.{codes}
-use Rattle.unicode.specs.Lines.{after}
+use Rattle.white_space.specs.Lines.{after}
 
 -- the bytes from one place up to another are ASCII from 0x20 on
 pub record Plain (s : List ℕ) (at to : ℕ) : Type 0 where

@@ -1,7 +1,8 @@
 // The end of a line, sought over plain bytes, and the check of a text line by line.
+#![tactic(auto)]
 ghost use Rattle.std.specs.Prelude.{true, ◌≡◌, ◌+◌, ◌≤◌, length, drop};
 ghost use Rattle.utf8.specs.Utf8.{check};
-ghost use Rattle.unicode.specs.Lines.{ValidTo};
+ghost use Rattle.white_space.specs.Lines.{ValidTo};
 ghost use Rattle.line_checks.specs.LineEnds.{Plain, NextFrom};
 
 use utf8::Checked;
@@ -59,7 +60,7 @@ fn skip_some(s: &[u8], at: usize, n: usize) -> usize
 }
 
 // Where the next line starts, and up to where the bytes are valid.
-#[derive(Drop)]
+#[derive(Clone, Copy)]
 pub struct LineEnd {
     pub next: usize,
     pub valid: usize,

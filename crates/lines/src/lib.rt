@@ -1,4 +1,5 @@
 // A line of input: the words of a line, and the text that stands behind a line's kind.
+#![tactic(auto)]
 ghost use Rattle.std.specs.Prelude.{◌≡◌, ◌≤◌, length, drop};
 ghost use Rattle.numerals.specs.RuleNumbers.{number_of};
 ghost use Rattle.lines.specs.Texts.{FirstAt, flagged, at_most, bytes_in, bytes_by, text_of, text_in, TextWithin};
@@ -24,7 +25,7 @@ pub fn find(s: &[u8], at: usize, m: u8) -> usize
 }
 
 // Whether a word is a number that is not too large, and that number.
-#[derive(Drop)]
+#[derive(Clone, Copy)]
 struct Small {
     hit: bool,
     value: usize,
@@ -78,7 +79,7 @@ fn read_bytes(line: &[u8], from: usize, count: usize, text: &mut [u8]) -> bool
 }
 
 // What stands behind a kind: so many bytes of a text, or no text.
-#[derive(Drop)]
+#[derive(Clone, Copy)]
 pub enum LineText {
     Text(usize),
     Malformed,

@@ -1,4 +1,5 @@
 // The regions as a lent run of rects, searched for the region of each frame of GRID.
+#![tactic(auto)]
 ghost use Rattle.std.specs.Prelude.{◌≡◌, ◌++◌, ◌+◌, ◌*◌, ◌<◌, ◌≤◌, ◌^◌, length, take, drop};
 ghost use Rattle.lists.specs.Picture.{canvas};
 ghost use Rattle.model.specs.Limits.{region_count};
@@ -59,7 +60,7 @@ fn first_containing(rects: &[Rect], from: usize, count: usize, frame: Rect) -> u
 }
 
 // A corner of GRID, the row under it, and the frame that starts there.
-#[derive(Drop)]
+#[derive(Clone, Copy)]
 struct Sought {
     at: usize,
     under: usize,

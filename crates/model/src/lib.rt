@@ -1,4 +1,5 @@
 // The words of a decision table: points, rects, hit policies, placements, cells, and why a sheet is refused.
+#![tactic(auto)]
 ghost use Rattle.std.specs.Prelude.{◌≡◌, ◌+◌, ◌-◌, ◌<◌, ◌^◌};
 ghost use Rattle.model.specs.Geometry.{contains_of};
 ghost use Rattle.model.specs.Policies.{policy_number, orientation_number};
@@ -8,7 +9,7 @@ pub mod box_drawing;
 pub mod limits;
 
 // A place on a canvas: column x of row y.
-#[derive(Drop)]
+#[derive(Clone, Copy)]
 pub struct Point {
     pub x: usize,
     pub y: usize,
@@ -29,7 +30,7 @@ impl Point {
 }
 
 // A rectangle; right and bottom are exclusive.
-#[derive(Drop)]
+#[derive(Clone, Copy)]
 pub struct Rect {
     pub left: usize,
     pub top: usize,
@@ -87,7 +88,7 @@ impl Rect {
 }
 
 // What becomes of several matching rules' outputs under the policy COLLECT.
-#[derive(Drop)]
+#[derive(Clone, Copy)]
 pub enum BuiltinAggregator {
     List,
     Count,
@@ -96,7 +97,7 @@ pub enum BuiltinAggregator {
     Max,
 }
 
-#[derive(Drop)]
+#[derive(Clone, Copy)]
 pub enum HitPolicy {
     Unique,
     Any,
@@ -108,14 +109,14 @@ pub enum HitPolicy {
 }
 
 // Whether rules are rows or columns. (Crosstab sheets are refused.)
-#[derive(Drop)]
+#[derive(Clone, Copy)]
 pub enum Orientation {
     RulesAsRows,
     RulesAsColumns,
 }
 
 // Where the hit policy stands in a plane.
-#[derive(Drop)]
+#[derive(Clone, Copy)]
 pub enum HitPolicyPlacement {
     TopLeft(HitPolicy),
     BottomLeft(HitPolicy),
@@ -123,7 +124,7 @@ pub enum HitPolicyPlacement {
 }
 
 // Where the rule numbers stand in a plane, and how many there are.
-#[derive(Drop)]
+#[derive(Clone, Copy)]
 pub enum RuleNumbersPlacement {
     LeftBelow(u64),
     RightAfter(u64),
@@ -131,7 +132,7 @@ pub enum RuleNumbersPlacement {
 }
 
 // A cell of a plane: a region by its number, a double line, or a crossing of double lines.
-#[derive(Drop)]
+#[derive(Clone, Copy)]
 pub enum Cell {
     Region(u32),
     VerticalOutputDoubleLine,
@@ -144,7 +145,7 @@ pub enum Cell {
 }
 
 // Why a sheet, a lent plane or a text is refused.
-#[derive(Drop)]
+#[derive(Clone, Copy)]
 pub enum Refusal {
     InvalidUtf8(usize),
     CanvasTooLarge(usize, usize),
@@ -177,7 +178,7 @@ pub enum Refusal {
 }
 
 // A refusal as document 01 numbers it: N, A, B.
-#[derive(Drop)]
+#[derive(Clone, Copy)]
 pub struct Numbers {
     pub n: u64,
     pub a: u64,
@@ -238,7 +239,7 @@ fn kind_of(c: Cell) -> u32
 }
 
 // The number of a cell's region, if it has one.
-#[derive(Drop)]
+#[derive(Clone, Copy)]
 pub enum CellRegion {
     Number(usize),
     NoRegion,

@@ -1,4 +1,5 @@
 // An outcome and a value split as numbers, for programs in C or Rust.
+#![tactic(auto)]
 ghost use Rattle.std.specs.Prelude.{◌≡◌};
 ghost use Rattle.numbers.specs.Answers.{refusal_answer, answer_of, split_answer};
 
@@ -8,7 +9,7 @@ use utils::Split;
 
 // n = 0 and a record of `a` bytes, or a refusal's N, A and B.
 #[repr(C)]
-#[derive(Drop)]
+#[derive(Clone, Copy)]
 pub struct Answer {
     pub n: u64,
     pub a: u64,
@@ -42,7 +43,7 @@ pub fn outcome_answer(o: Outcome) -> Answer
 // A refusal's N, A and B; or n = 0, and whether the values are rewritten: so many bytes of the scratch slice are then the
 // allowed values, and the text's bytes between two places the default.
 #[repr(C)]
-#[derive(Drop)]
+#[derive(Clone, Copy)]
 pub struct SplitAnswer {
     pub n: u64,
     pub a: u64,

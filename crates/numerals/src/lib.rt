@@ -1,9 +1,10 @@
 // The rule number that a text is.
+#![tactic(auto)]
 ghost use Rattle.std.specs.Prelude.{◌≡◌, drop};
 ghost use Rattle.numerals.specs.RuleNumbers.{number_of, number_found, unsigned};
 
 // A text's rule number, if it is one.
-#[derive(Drop)]
+#[derive(Clone, Copy)]
 pub enum RuleNumber {
     Number(u64),
     NoNumber,

@@ -1,4 +1,5 @@
 // The outline of a table on the TEXT layer: whether it has a name, its crossings and its body.
+#![tactic(auto)]
 ghost use Rattle.std.specs.Prelude.{◌≡◌, ◌*◌, ◌≤◌, ◌<◌, length};
 ghost use Rattle.lists.specs.Picture.{canvas};
 ghost use Rattle.walks.specs.Frame.{Place};
@@ -11,21 +12,21 @@ use model::{Rect, Refusal};
 use walks::{Framed, Walked};
 
 // A place in row order, or a character that is missing.
-#[derive(Drop)]
+#[derive(Clone, Copy)]
 enum Found {
     Place(usize),
     NotFound(Refusal),
 }
 
 // Whether a name stands above the table, or why that cannot be told.
-#[derive(Drop)]
+#[derive(Clone, Copy)]
 enum Named {
     Told(bool),
     NotNamed(Refusal),
 }
 
 // The column or row of a crossing, or none.
-#[derive(Drop)]
+#[derive(Clone, Copy)]
 pub enum Crossing {
     At(usize),
     Nowhere,
@@ -33,7 +34,7 @@ pub enum Crossing {
 
 // Whether a name stands above the table; the main crossing's column and row; the column of the annotation crossing
 // on its right and the row of that below it; the body.
-#[derive(Drop)]
+#[derive(Clone, Copy)]
 pub struct Outline {
     pub named: bool,
     pub x: usize,
@@ -43,7 +44,7 @@ pub struct Outline {
     pub body: Rect,
 }
 
-#[derive(Drop)]
+#[derive(Clone, Copy)]
 pub enum Outlined {
     Table(Outline),
     NotOutlined(Refusal),

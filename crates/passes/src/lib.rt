@@ -1,4 +1,5 @@
 // Cells of an upright sheet that are all regions: every refusal in its order.
+#![tactic(auto)]
 ghost use Rattle.std.specs.Prelude.{◌≡◌, ◌+◌, ◌≤◌};
 ghost use Rattle.cells.specs.Plane.{plane_in, PlaneFits};
 ghost use Rattle.passes.specs.Passes.{fine_row, fine_rows};
@@ -8,7 +9,7 @@ use cell_tests::CellRead;
 use model::Refusal;
 
 // Cells are regions, or why not.
-#[derive(Drop)]
+#[derive(Clone, Copy)]
 pub enum Pass {
     Clear,
     Stopped(Refusal),

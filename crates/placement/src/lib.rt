@@ -1,4 +1,5 @@
 // Where the hit policy stands in a plane, and which way its sheet is laid out.
+#![tactic(auto)]
 ghost use Rattle.std.proofs.Math.Option.{some};
 ghost use Rattle.std.specs.Prelude.{◌≡◌, ◌<◌};
 ghost use Rattle.hit_policies.specs.Letters.{policy_found};
@@ -28,7 +29,7 @@ fn policy_in(c: Cell, bytes: &[u8], spans: &[u32], count: usize) -> FoundPolicy
 }
 
 // What a row begins with: a hit policy, or none; or why that cannot be told.
-#[derive(Drop)]
+#[derive(Clone, Copy)]
 enum Corner {
     Begins(FoundPolicy),
     NoCorner(Refusal),
@@ -52,7 +53,7 @@ fn corner_policy(
     }
 }
 
-#[derive(Drop)]
+#[derive(Clone, Copy)]
 pub enum Placed {
     Placement(HitPolicyPlacement),
     NotPlaced(Refusal),
@@ -127,14 +128,14 @@ fn holds(plane: &[u32], n: usize, kind: Cell) -> bool
 }
 
 // Which way a sheet is laid out, its hit policy, and how many rules it has.
-#[derive(Drop)]
+#[derive(Clone, Copy)]
 pub struct Oriented {
     pub orientation: Orientation,
     pub policy: HitPolicy,
     pub rules: u64,
 }
 
-#[derive(Drop)]
+#[derive(Clone, Copy)]
 pub enum OrientedSheet {
     Sheet(Oriented),
     NotOriented(Refusal),

@@ -1,4 +1,5 @@
 // The upright sheet of a plane, or of a lent one, with its hit policy and its rule count.
+#![tactic(auto)]
 ghost use Rattle.std.specs.Prelude.{◌≡◌, ◌≤◌, length};
 ghost use Rattle.model.specs.Limits.{plane_size};
 ghost use Rattle.cells.specs.Held.{Held};
@@ -14,7 +15,7 @@ use placement::OrientedSheet;
 use turning::Turned;
 
 // Which way a sheet is laid out, its hit policy, how many rules it has, and the rows of its upright sheet.
-#[derive(Drop)]
+#[derive(Clone, Copy)]
 pub struct Stated {
     pub orientation: Orientation,
     pub policy: HitPolicy,
@@ -22,7 +23,7 @@ pub struct Stated {
     pub rows: usize,
 }
 
-#[derive(Drop)]
+#[derive(Clone, Copy)]
 pub enum StatedSheet {
     Upright(Stated),
     NotStated(Refusal),

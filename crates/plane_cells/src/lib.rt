@@ -1,4 +1,5 @@
 // Cells that are added to a row of a plane.
+#![tactic(auto)]
 ghost use Rattle.std.specs.Prelude.{true, ◌≡◌, [], ◌∷◌, ◌++◌, ◌+◌, ◌≤◌, ◌<◌, length};
 ghost use Rattle.lists.specs.Choose.{choose};
 ghost use Rattle.outline.specs.declared.Crossing.TheVariants.{At};
@@ -23,14 +24,14 @@ pub fn is_at(c: Crossing, x: usize) -> bool
 }
 
 // A row so far: how many cells it has, and the columns of the two double lines.
-#[derive(Drop)]
+#[derive(Clone, Copy)]
 pub struct RowSofar {
     pub cells: usize,
     pub output: Crossing,
     pub annotation: Crossing,
 }
 
-#[derive(Drop)]
+#[derive(Clone, Copy)]
 pub enum RowMade {
     Cells(RowSofar),
     NoCells(Refusal),

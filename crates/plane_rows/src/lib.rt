@@ -1,4 +1,5 @@
 // Line rows that are added to a plane.
+#![tactic(auto)]
 ghost use Rattle.std.specs.Prelude.{◌≡◌, ◌≤◌, ◌<◌, length};
 ghost use Rattle.lists.specs.Answer.{ok};
 ghost use Rattle.lists.specs.Choose.{choose};
@@ -14,7 +15,7 @@ use model::{Cell, Refusal};
 use outline::Crossing;
 
 // The plane so far: its rows, the length of the last, and the columns of the two double lines.
-#[derive(Drop)]
+#[derive(Clone, Copy)]
 pub struct PlaneSofar {
     pub rows: usize,
     pub width: usize,
@@ -22,7 +23,7 @@ pub struct PlaneSofar {
     pub annotation: Crossing,
 }
 
-#[derive(Drop)]
+#[derive(Clone, Copy)]
 pub enum RowsMade {
     Sofar(PlaneSofar),
     NoRows(Refusal),

@@ -14,7 +14,7 @@ use Rattle.model.specs.Limits.{plane_rows, plane_cells, text_bytes}
 use Rattle.model.specs.Refusals.{Reading}
 use Rattle.model.specs.declared.Cell.{Cell}
 use Rattle.model.specs.declared.Refusal.TheVariants.{LentPlaneMalformed}
-use Rattle.unicode.proofs.TrimLength.{trim-length}
+use Rattle.white_space.proofs.TrimLength.{trim-length}
 use Rattle.cells.specs.Plane.{TextPlane}
 use Rattle.lent.specs.LentPlane.{LentPlane, cut, well_formed, lent_cells, lent_text, lent_of}
 use Rattle.lent.proofs.FormLaws.{rows_good, parts_good_lem}

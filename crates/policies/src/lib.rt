@@ -1,1 +1,2 @@
 // The policies that drawings and lent planes state. All of it stands in specs/ and proofs/.
+#![tactic(auto)]

@@ -1,4 +1,5 @@
 // The policy that a plane states, as the numbers of a table and the slots of its texts.
+#![tactic(auto)]
 ghost use Rattle.std.specs.Prelude.{◌≡◌, ℕ, ◌*◌, ◌≤◌, ◌<◌, length, get_or};
 ghost use Rattle.cells.specs.Plane.{plane_in};
 ghost use Rattle.cells.specs.Spans.{text_in};
@@ -13,7 +14,7 @@ use model::{HitPolicy, Orientation, Refusal};
 use plane::{Stated, StatedSheet};
 
 // The numbers of a table, its slots with the name's, and the bytes of its texts without the name.
-#[derive(Drop)]
+#[derive(Clone, Copy)]
 pub struct SlotTable {
     pub policy: HitPolicy,
     pub orientation: Orientation,
@@ -25,7 +26,7 @@ pub struct SlotTable {
     pub bytes: usize,
 }
 
-#[derive(Drop)]
+#[derive(Clone, Copy)]
 pub enum Recognized {
     Stands(SlotTable),
     NotRecognized(Refusal),

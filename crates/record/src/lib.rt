@@ -1,4 +1,5 @@
 // The table record, written to a slice: its header and its slots.
+#![tactic(auto)]
 ghost use Rattle.std.specs.Prelude.{[], ◌∷◌, ◌++◌, ◌≡◌, ◌+◌, ◌*◌, ◌<◌, ◌≤◌, ◌^◌, length};
 ghost use Rattle.lists.specs.Put.{put};
 ghost use Rattle.record.specs.Record.{word, words, slot_offset, text_offset};
@@ -12,7 +13,7 @@ pub const ABSENT: u32 = 0;
 pub const PART: u32 = 1;
 
 // The numbers of a record's header.
-#[derive(Drop)]
+#[derive(Clone, Copy)]
 pub struct Head {
     pub policy: u32,
     pub orientation: u32,
@@ -23,7 +24,7 @@ pub struct Head {
 }
 
 // A record of so many bytes is begun, or the slice is too short for it.
-#[derive(Drop)]
+#[derive(Clone, Copy)]
 pub enum Begun {
     Record(usize),
     NotWritten(Refusal),

@@ -1,4 +1,5 @@
 // The texts of a table record, written to its slice with their slots: packed in slot order.
+#![tactic(auto)]
 ghost use Rattle.std.specs.Prelude.{[], ◌∷◌, ◌≡◌, ◌+◌, ◌-◌, ◌*◌, ◌<◌, ◌≤◌, ◌^◌, length, take, drop};
 ghost use Rattle.std.proofs.Math.Option.{some};
 ghost use Rattle.record.specs.Record.{bytes_of, packed, slot_offset};
@@ -9,7 +10,7 @@ ghost use Rattle.record_texts.specs.PlainSlots.{text_at, plain_slots, plain_text
 use record::{ABSENT, PART};
 
 // How far a record is written: the next slot, and the next text's offset.
-#[derive(Drop)]
+#[derive(Clone, Copy)]
 pub struct Reached {
     pub slot: usize,
     pub offset: usize,

@@ -1,4 +1,5 @@
 // The record of a table that is read, or why there is none.
+#![tactic(auto)]
 ghost use Rattle.std.specs.Prelude.{◌≡◌, ◌*◌, ◌≤◌, length};
 ghost use Rattle.record.specs.Slots.{slot_limit};
 ghost use Rattle.recognizer.specs.declared.Recognized.TheVariants.{Stands};
@@ -10,7 +11,7 @@ use recognizer::{Recognized, SlotTable};
 use record::{Begun, Head};
 
 // A record of so many bytes, or why there is none.
-#[derive(Drop)]
+#[derive(Clone, Copy)]
 pub enum Outcome {
     Record(usize),
     Refused(Refusal),

@@ -1,4 +1,5 @@
 // The regions of THIN, in row order, as rects in a slice of four numbers each.
+#![tactic(auto)]
 ghost use Rattle.std.specs.Prelude.{◌≡◌, [], ◌+◌, ◌*◌, ◌<◌, ◌≤◌, length};
 ghost use Rattle.lists.specs.Answer.{each};
 ghost use Rattle.lists.specs.OneOf.{any_at};
@@ -18,7 +19,7 @@ use model::limits::REGIONS;
 use walks::Framed;
 
 // So many regions stand in the slice, or why they cannot.
-#[derive(Drop)]
+#[derive(Clone, Copy)]
 pub enum Counted {
     Regions(usize),
     NotCounted(Refusal),

@@ -1,6 +1,7 @@
 // Lines on standard input, each a kind, a count of bytes and the bytes. Prints what the port answers to each, as
 // the judge of the Rust prints it: `split` is a text for the value split, `drawing` a sheet, `plane` a lent plane; `sheet` and
 // `table` are a sheet and a lent plane whose record is asked for.
+#![tactic(auto)]
 ghost use Rattle.std.specs.Prelude.{◌≡◌, ◌+◌, ◌-◌, ◌≤◌, length, take, drop};
 ghost use Rattle.model.specs.Limits.{text_bytes};
 ghost use Rattle.lent_lists.specs.LentText.{lent_in};
@@ -13,7 +14,7 @@ use lines::{LINE_BYTES, LineText};
 use model::limits::TEXT_BYTES;
 
 // What became of a line: its answer ends at an index, or it is malformed.
-#[derive(Drop)]
+#[derive(Clone, Copy)]
 pub enum Answered {
     Upto(usize),
     NoText,
@@ -81,7 +82,7 @@ fn answer_plane(line: &[u8], is_table: bool, text: &mut [u8], out: &mut [u8], at
 }
 
 // What a line asks for.
-#[derive(Drop)]
+#[derive(Clone, Copy)]
 pub enum Kind {
     Split,
     Drawing,
@@ -156,7 +157,7 @@ fn answer_line(
 }
 
 // How far the lines of the input are answered, the answers' count of bytes, and whether no line was malformed.
-#[derive(Drop)]
+#[derive(Clone, Copy)]
 struct Progress(usize, usize, bool);
 
 // The answers to the whole lines of the input, up to one that is malformed, or as many as there is room for.
@@ -211,7 +212,7 @@ fn read_more(input: &mut [u8], count: usize) -> usize
 }
 
 // How many bytes of the input wait to be answered, and whether to go on.
-#[derive(Drop)]
+#[derive(Clone, Copy)]
 struct Waiting {
     count: usize,
     is_open: bool,

@@ -1,10 +1,11 @@
 // Whether the work slices of a call have their lengths.
+#![tactic(auto)]
 ghost use Rattle.std.specs.Prelude.{◌≡◌, length};
 ghost use Rattle.room.specs.Room.{room_from, room_in};
 
 use model::Refusal;
 
-#[derive(Drop)]
+#[derive(Clone, Copy)]
 pub enum WorkSlices {
     Enough,
     Short(Refusal),

@@ -1,4 +1,5 @@
 // The rule numbers of a plane: down column 0, or along the last row.
+#![tactic(auto)]
 ghost use Rattle.std.specs.Prelude.{◌≡◌, ◌≤◌, ◌<◌, length, drop};
 ghost use Rattle.model.specs.Limits.{plane_rows, plane_size};
 ghost use Rattle.numerals.specs.RuleNumbers.{number_found};
@@ -24,7 +25,7 @@ fn number_in(c: Cell, bytes: &[u8], spans: &[u32], count: usize) -> RuleNumber
 }
 
 // A place of a line: a cell, or none.
-#[derive(Drop)]
+#[derive(Clone, Copy)]
 pub enum Slot {
     Filled(Cell),
     Missing,
@@ -48,7 +49,7 @@ pub fn slot_at(plane: &[u32], down: bool, row: usize, k: usize) -> Slot
 }
 
 // The place behind a cell of a line, or why there is none.
-#[derive(Drop)]
+#[derive(Clone, Copy)]
 enum Place {
     Behind(usize),
     NoPlace(Refusal),
@@ -75,7 +76,7 @@ fn place_behind(plane: &[u32], down: bool, row: usize, n: usize, kind: Cell) -> 
 }
 
 // The last of the rule numbers of a line, 0 where there are none, or a refusal.
-#[derive(Drop)]
+#[derive(Clone, Copy)]
 enum Count {
     Upto(u64),
     NotCounted(Refusal),
@@ -135,7 +136,7 @@ fn count_behind(
     }
 }
 
-#[derive(Drop)]
+#[derive(Clone, Copy)]
 pub enum Numbered {
     Numbers(RuleNumbersPlacement),
     NotNumbered(Refusal),

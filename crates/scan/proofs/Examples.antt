@@ -6,10 +6,10 @@ use lib.ListN.{replicate}
 use Rattle.lists.specs.Answer.{ok}
 use Rattle.lists.specs.Put.{put}
 use Rattle.model.specs.Box.{─, │, ┌, ┐, └, ┘, ░}
-use Rattle.unicode.specs.Lines.{lines, texts, after, last_of}
-use Rattle.unicode.specs.Trim.{trim_start, trim_end, trim}
+use Rattle.white_space.specs.Lines.{lines, texts, after, last_of}
+use Rattle.white_space.specs.Trim.{trim_start, trim_end, trim}
 use Rattle.utf8.specs.Utf8.{more, by, decode, read, codes}
-use Rattle.unicode.specs.White.{among}
+use Rattle.white_space.specs.White.{among}
 use Rattle.sheet_rows.specs.Rows.{rows_at, up_to, collect, widest}
 use Rattle.sheet_rows.specs.Sheet.{lines_through, lines_taken, behind, rest_of}
 use Rattle.scan.specs.Canvas.{size_of, blanks_in}

@@ -9,7 +9,7 @@ use Rattle.lists.specs.Put.{put}
 use Rattle.lists.proofs.Parts.{take_next, drop-next}
 use Rattle.lists.proofs.PutLaws.{put_nil, put-put, put_snoc}
 use Rattle.model.specs.Box.{░}
-use Rattle.unicode.specs.Lines.{codes_at}
+use Rattle.white_space.specs.Lines.{codes_at}
 use Rattle.utf8.specs.Utf8.{codes, decode, StandsAt}
 use Rattle.utf8.specs.declared.Decoded.{Decoded}
 use Rattle.utf8.specs.declared.Decoded.TheVariants.{Char, IllFormed, End}

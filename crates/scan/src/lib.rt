@@ -1,8 +1,9 @@
 // From the bytes of a sheet to the layers TEXT and BODY.
+#![tactic(auto)]
 ghost use Rattle.std.specs.Prelude.{◌≡◌, map, ◌+◌, ◌*◌, ◌≤◌, length, replicate};
 ghost use Rattle.lists.specs.Put.{put};
 ghost use Rattle.model.specs.Limits.{canvas_size};
-ghost use Rattle.unicode.specs.Lines.{codes_at};
+ghost use Rattle.white_space.specs.Lines.{codes_at};
 ghost use Rattle.sheet_rows.specs.Found.{rows_in, Counted};
 ghost use Rattle.sheet_rows.specs.Rows.{rows_at, widest};
 ghost use Rattle.scan.specs.Rows.{fill, blank, flat};
@@ -81,7 +82,7 @@ fn write_rows(
 }
 
 // What a scan answers: the canvas's rows and columns, where the text behind the sheet starts and up to where the bytes are valid; or a refusal.
-#[derive(Drop)]
+#[derive(Clone, Copy)]
 pub enum Scanned {
     Canvas(usize, usize, usize, usize),
     NotScanned(Refusal),

@@ -1,4 +1,5 @@
 // The search for a text in another by the periods of its fronts, after Galil and Seiferas 1983.
+#![tactic(auto)]
 ghost use Rattle.std.specs.Prelude.{◌&&◌, List, ◌≡◌, ℕ, ◌+◌, ◌*◌, ◌≤◌, ◌<◌, leb, ltb, length, set};
 ghost use Rattle.search.specs.Periods.{Knows, Safe, Periods, FirstPlace};
 
@@ -10,7 +11,7 @@ fn covers(e: usize, reach: usize, j: usize) -> bool
 }
 
 // How far a text moves on after a mismatch, and how many of its bytes match there already.
-#[derive(Drop)]
+#[derive(Clone, Copy)]
 struct Shift {
     by: usize,
     keep: usize,

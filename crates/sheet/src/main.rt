@@ -1,4 +1,5 @@
 // Reads a sheet from standard input and prints its record, or why there is none.
+#![tactic(auto)]
 ghost use Rattle.std.specs.Prelude.{◌≤◌, length};
 ghost use Rattle.print.specs.Decimal.{Written};
 ghost use Rattle.outcome_lines.specs.PolicyLines.{report_bytes};

@@ -10,7 +10,7 @@ use Rattle.lists.specs.Run.{run}
 use Rattle.lists.proofs.RunLaws.{build-same, build-next}
 use Rattle.model.specs.Box.{┘}
 use Rattle.model.specs.Limits.{canvas_rows}
-use Rattle.unicode.specs.Lines.{codes_at, LineAt}
+use Rattle.white_space.specs.Lines.{codes_at, LineAt}
 use Rattle.sheet_rows.specs.Found.{texts_at, row_in, rows_in, Counted, Kept}
 use Rattle.sheet_rows.specs.Rows.{up_to}
 use Rattle.sheet_rows.proofs.RowsLaws.{line-counted, rows_none, rows_last, rows_more, rows_end}

@@ -7,7 +7,7 @@ use native.Mathlib.Omega.{arith}
 use lib.ListN.{length, drop}
 use borrow.Author.Tests.{eq-eqb, ne_eqb}
 use Rattle.model.specs.Box.{┌, ┘}
-use Rattle.unicode.specs.Lines.{line_text, LineAt, HeadAt, ValidTo}
+use Rattle.white_space.specs.Lines.{line_text, LineAt, HeadAt, ValidTo}
 use Rattle.utf8.specs.Utf8.{codes}
 use Rattle.sheet_rows.specs.Found.{texts_at, rest_at, StartAt, Measured}
 use Rattle.sheet_rows.specs.Rows.{begins, up_to, collect, rows_at, widest}

@@ -8,9 +8,9 @@ use lib.ListN.{length, drop}
 use borrow.Author.Tests.{eq-eqb, ne_eqb}
 use Rattle.lists.proofs.Tests.{true_false}
 use Rattle.model.specs.Box.{┘}
-use Rattle.unicode.specs.Lines.{lines, texts, kept, last_of, line_text, codes_at, LineAt, HeadAt}
+use Rattle.white_space.specs.Lines.{lines, texts, kept, last_of, line_text, codes_at, LineAt, HeadAt}
 use Rattle.utf8.specs.Utf8.{codes}
-use Rattle.unicode.proofs.LineLaws.{texts-split}
+use Rattle.white_space.proofs.LineLaws.{texts-split}
 use Rattle.utf8.proofs.Utf8Laws.{codes_end}
 use Rattle.sheet_rows.specs.Found.{texts_at}
 use Rattle.sheet_rows.specs.Rows.{begins, up_to, collect}

@@ -7,10 +7,10 @@ use native.Mathlib.Omega.{arith}
 use lib.ListN.{length, drop}
 use borrow.Author.Tests.{eq-eqb, ne_eqb}
 use Rattle.model.specs.Box.{┘}
-use Rattle.unicode.specs.Lines.{lines, line, after, last_of, line_text, LineAt, HeadAt}
-use Rattle.unicode.specs.Trim.{trim}
+use Rattle.white_space.specs.Lines.{lines, line, after, last_of, line_text, LineAt, HeadAt}
+use Rattle.white_space.specs.Trim.{trim}
 use Rattle.utf8.specs.Utf8.{codes}
-use Rattle.unicode.proofs.LineLaws.{lines_cons}
+use Rattle.white_space.proofs.LineLaws.{lines_cons}
 use Rattle.utf8.proofs.Utf8Laws.{codes_end}
 use Rattle.sheet_rows.specs.Found.{rest_at}
 use Rattle.sheet_rows.specs.Rows.{begins, ends}

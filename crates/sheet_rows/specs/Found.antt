@@ -1,7 +1,7 @@
 -- What is found out about the sheet in some bytes: where it starts, its size, and where its rows stand.
 use Rattle.std.specs.Prelude.{List, ◌≡◌, ℕ, ◌+◌, ◌*◌, ◌≤◌, ◌<◌, length, get_or, drop}
 use Rattle.lists.specs.Run.{build}
-use Rattle.unicode.specs.Lines.{lines, texts, codes_at}
+use Rattle.white_space.specs.Lines.{lines, texts, codes_at}
 use Rattle.utf8.specs.Utf8.{codes}
 use Rattle.sheet_rows.specs.Rows.{rows_at, up_to, widest}
 use Rattle.sheet_rows.specs.Sheet.{lines_through, behind, rest_of}

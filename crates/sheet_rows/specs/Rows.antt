@@ -2,7 +2,7 @@
 use Rattle.std.specs.Prelude.{Bool, List, [], ◌∷◌, ℕ, max, eqb, length, drop}
 use Rattle.lists.specs.Choose.{choose}
 use Rattle.model.specs.Box.{┌, ┘}
-use Rattle.unicode.specs.Lines.{lines, texts, first_of, last_of}
+use Rattle.white_space.specs.Lines.{lines, texts, first_of, last_of}
 use Rattle.utf8.specs.Utf8.{codes}
 
 abbrev pub begins : List ℕ → Bool

@@ -1,8 +1,8 @@
 -- Where the first sheet of a text ends: behind its last line.
 use Rattle.std.specs.Prelude.{List, [], ◌∷◌, ℕ, zero, suc}
 use Rattle.lists.specs.Choose.{choose}
-use Rattle.unicode.specs.Lines.{lines, after}
-use Rattle.unicode.specs.Trim.{trim}
+use Rattle.white_space.specs.Lines.{lines, after}
+use Rattle.white_space.specs.Trim.{trim}
 use Rattle.sheet_rows.specs.Rows.{begins, ends}
 
 -- the lines up to the first that ends with ┘, and that one

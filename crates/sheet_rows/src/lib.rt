@@ -1,14 +1,15 @@
 // Where the rows of a sheet stand in its bytes, and how many and how long they are.
+#![tactic(auto)]
 ghost use Rattle.std.specs.Prelude.{◌≡◌, ◌+◌, ◌*◌, ◌≤◌, ◌<◌, max, length, set};
 ghost use Rattle.model.specs.Limits.{canvas_rows};
-ghost use Rattle.unicode.specs.Lines.{ValidTo};
+ghost use Rattle.white_space.specs.Lines.{ValidTo};
 ghost use Rattle.utf8.specs.Utf8.{SameCheck};
 ghost use Rattle.sheet_rows.specs.Found.{StartAt, Measured, Kept};
 
 use model::{box_drawing, limits};
 
 // Where a sheet starts, and up to where the bytes before it are valid.
-#[derive(Drop)]
+#[derive(Clone, Copy)]
 pub struct SheetStart {
     pub at: usize,
     pub valid: usize,
@@ -55,7 +56,7 @@ fn keep_line(lines: &mut [usize], n: usize, from: usize, count: usize)
 }
 
 // How many rows a sheet has, how many code points the longest, where the text behind it starts, and up to where the bytes are valid.
-#[derive(Drop)]
+#[derive(Clone, Copy)]
 pub struct Extent {
     pub rows: usize,
     pub columns: usize,

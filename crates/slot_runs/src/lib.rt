@@ -1,4 +1,5 @@
 // Texts written as slots, one by one and along a row: three numbers each.
+#![tactic(auto)]
 ghost use Rattle.std.specs.Prelude.{List, [], ◌∷◌, ◌≡◌, ℕ, ◌+◌, ◌*◌, ◌≤◌, ◌<◌, length};
 ghost use Rattle.std.proofs.Math.Option.{none, some};
 ghost use Rattle.model.specs.Limits.{text_bytes};
@@ -17,14 +18,14 @@ use values::Measured;
 use writer::VALUES;
 
 // The next slot, and the bytes of the texts before it.
-#[derive(Drop)]
+#[derive(Clone, Copy)]
 pub struct Filled {
     pub slot: usize,
     pub bytes: usize,
 }
 
 // A part of the bytes.
-#[derive(Drop)]
+#[derive(Clone, Copy)]
 pub struct Part {
     pub offset: u32,
     pub size: u32,

@@ -1,4 +1,5 @@
 // The plane step: from the frames of GRID, the regions and the crossings to the plane.
+#![tactic(auto)]
 ghost use Rattle.std.specs.Prelude.{true, ◌≡◌, [], ◌+◌, ◌*◌, ◌≤◌, ◌<◌, length};
 ghost use Rattle.lists.specs.Picture.{pic, canvas};
 ghost use Rattle.model.specs.Limits.{plane_size};
@@ -170,7 +171,7 @@ fn add_grid_row(
 }
 
 // So many rows stand in the slice, or why they cannot.
-#[derive(Drop)]
+#[derive(Clone, Copy)]
 pub enum PlaneMade {
     Made(usize),
     NotMade(Refusal),

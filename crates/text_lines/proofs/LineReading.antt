@@ -9,10 +9,10 @@ use native.Mathlib.Omega.{arith}
 use lib.ListN.{length, take, drop, length-append}
 use lib.Dec.{eqb}
 use borrow.Author.Tests.{eq-eqb, ne_eqb}
-use Rattle.unicode.specs.White.{white}
+use Rattle.white_space.specs.White.{white}
 use Rattle.lists.specs.Choose.{choose}
-use Rattle.unicode.specs.Trim.{trim_start, trim_end, before, trim}
-use Rattle.unicode.specs.Lines.{first_of, last_of, line, after, line_text, LineAt, HeadAt, ValidTo}
+use Rattle.white_space.specs.Trim.{trim_start, trim_end, before, trim}
+use Rattle.white_space.specs.Lines.{first_of, last_of, line, after, line_text, LineAt, HeadAt, ValidTo}
 use Rattle.line_checks.specs.LineEnds.{NextFrom}
 use Rattle.text_lines.specs.LineScan.{lead, RestAt}
 use Rattle.text_lines.specs.declared.Rest.{Rest}
@@ -20,7 +20,7 @@ use Rattle.utf8.specs.Utf8.{codes, decode, SameCheck}
 use Rattle.utf8.specs.Passed.{code_of}
 use Rattle.utf8.specs.declared.Decoded.TheVariants.{Char}
 use Rattle.utf8.proofs.Utf8Laws.{decode_end, codes_at_lem, char_fits, check-at, codes_end}
-use Rattle.unicode.proofs.TrimLaws.{end_snoc, first_end}
+use Rattle.white_space.proofs.TrimLaws.{end_snoc, first_end}
 use Rattle.line_checks.proofs.LinePassing.{Passing, Passed, here, pass-start, pass_fits, pass-more, pass_feed, pass_stop, pass_end}
 
 pub after-lead : (s : List ℕ) → after (lead s) ≡ after s

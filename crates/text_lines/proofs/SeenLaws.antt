@@ -16,12 +16,12 @@ use Rattle.utf8.specs.declared.Decoded.{Decoded}
 use Rattle.utf8.specs.declared.Decoded.TheVariants.{Char, IllFormed, End}
 use Rattle.utf8.proofs.Utf8Laws.{decode-at, row1, row4, more_in, codes_char, codes_bad, codes-none, encode1}
 use Rattle.utf8.proofs.Inverse.{decode-size}
-use Rattle.unicode.specs.White.{among, white}
-use Rattle.unicode.specs.Lines.{first_of, line}
+use Rattle.white_space.specs.White.{among, white}
+use Rattle.white_space.specs.Lines.{first_of, line}
 use Rattle.text_lines.specs.LineScan.{seen_of, WordAt, head_of}
 use Rattle.text_lines.specs.declared.Seen.{Seen}
 use Rattle.text_lines.specs.declared.Seen.TheVariants.{Text, White, LineFeed, Nothing}
-use Rattle.unicode.proofs.WhiteLaws.{dark}
+use Rattle.white_space.proofs.WhiteLaws.{dark}
 
 -- a code point by what it is
 pub of_text : (c n : ℕ) → white c ≡ false → seen_of (Char c n) ≡ Text n

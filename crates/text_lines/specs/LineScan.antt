@@ -4,9 +4,9 @@ use Rattle.lists.specs.Choose.{choose}
 use Rattle.utf8.specs.Utf8.{codes}
 use Rattle.utf8.specs.declared.Decoded.{Decoded}
 use Rattle.utf8.specs.declared.Decoded.TheVariants.{Char, IllFormed, End}
-use Rattle.unicode.specs.White.{white}
-use Rattle.unicode.specs.Trim.{trim_end}
-use Rattle.unicode.specs.Lines.{line, last_of}
+use Rattle.white_space.specs.White.{white}
+use Rattle.white_space.specs.Trim.{trim_end}
+use Rattle.white_space.specs.Lines.{line, last_of}
 use Rattle.line_checks.specs.LineEnds.{NextFrom}
 use Rattle.text_lines.specs.declared.Seen.{Seen}
 use Rattle.text_lines.specs.declared.Seen.TheVariants.{Text, White, LineFeed, Nothing}

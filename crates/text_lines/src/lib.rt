@@ -1,8 +1,9 @@
 // The lines of a text in UTF-8, read by their bytes: a line of a sheet with its length, and the head of any other.
+#![tactic(auto)]
 ghost use Rattle.std.specs.Prelude.{true, ◌≡◌, ◌+◌, ◌<◌, ◌≤◌, length, drop};
 ghost use Rattle.utf8.specs.Utf8.{decode, codes, SameCheck};
 ghost use Rattle.utf8.specs.Passed.{code_of};
-ghost use Rattle.unicode.specs.Lines.{LineAt, HeadAt, ValidTo};
+ghost use Rattle.white_space.specs.Lines.{LineAt, HeadAt, ValidTo};
 ghost use Rattle.text_lines.specs.LineScan.{lead, RestAt, seen_of, WordAt, head_of};
 ghost use Rattle.text_lines.specs.declared.Seen.TheVariants.{Text};
 
@@ -21,7 +22,7 @@ fn skip_white(s: &[u8], at: usize) -> usize
                 if c == 10 {
                     return p;
                 }
-                if unicode::white_space(c) {
+                if white_space::white_space(c) {
                     p += n;
                 } else {
                     return p;
@@ -39,7 +40,7 @@ fn skip_white(s: &[u8], at: usize) -> usize
 }
 
 // What a line has at a place: a character of its text or white space, each with its number of bytes; a line feed; or nothing that is well-formed.
-#[derive(Drop)]
+#[derive(Clone, Copy)]
 enum Seen {
     Text(usize),
     White(usize),
@@ -52,7 +53,7 @@ fn seen_of(d: Decoded) -> Seen
 {
     match d {
         Decoded::Char(c, n) => {
-            if !unicode::white_space(c) {
+            if !white_space::white_space(c) {
                 return Seen::Text(n);
             }
             if c == 10 {
@@ -122,7 +123,7 @@ fn seen_at(s: &[u8], at: usize) -> Seen
 }
 
 // The rest of a line: how many code points are left without the white space at its end, the last of them, where the next line starts, and up to where the bytes are valid.
-#[derive(Drop)]
+#[derive(Clone, Copy)]
 struct Rest {
     count: usize,
     last: u32,
@@ -187,7 +188,7 @@ fn line_rest(s: &[u8], from: usize) -> Rest
 }
 
 // A line: where its trimmed text starts, how many code points that has, the last of them, where the next line starts, and up to where the bytes are valid.
-#[derive(Drop)]
+#[derive(Clone, Copy)]
 pub struct Line {
     pub from: usize,
     pub count: usize,
@@ -229,7 +230,7 @@ fn first_of(d: Decoded) -> u32
 }
 
 // The head of a line: the first code point of its trimmed text, 0 where it has none, where the next line starts, and up to where the bytes are valid.
-#[derive(Drop)]
+#[derive(Clone, Copy)]
 pub struct Head {
     pub first: u32,
     pub next: usize,

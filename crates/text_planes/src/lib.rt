@@ -1,4 +1,5 @@
 // From the layers of a drawing to its regions with their texts, and to its plane.
+#![tactic(auto)]
 ghost use Rattle.std.specs.Prelude.{◌≡◌};
 ghost use Rattle.lists.specs.Picture.{canvas};
 ghost use Rattle.text_planes.specs.DrawnPlane.{text_plane_of, plane_read, PlaneHeld, PlaneRoom};
@@ -11,7 +12,7 @@ use step::PlaneMade;
 use texts::Gathered;
 
 // So many regions, whose texts have so many bytes; or a refusal.
-#[derive(Drop)]
+#[derive(Clone, Copy)]
 pub enum RegionsRead {
     Read(usize, usize),
     NotRead(Refusal),
@@ -41,7 +42,7 @@ pub fn read_regions(
 }
 
 // So many rows of a plane, with so many regions; or a refusal.
-#[derive(Drop)]
+#[derive(Clone, Copy)]
 pub enum PlaneRead {
     Rows(usize, usize),
     NoPlane(Refusal),

@@ -6,10 +6,10 @@ use Rattle.lists.specs.Picture.{canvas, within}
 use Rattle.lists.specs.Run.{run}
 use Rattle.model.specs.Box.{─, │, ┌, ┐, └, ┘}
 use Rattle.model.specs.declared.Rect.{Rect}
-use Rattle.unicode.specs.Lines.{texts}
-use Rattle.unicode.specs.Trim.{trim_start, trim_end, trim}
+use Rattle.white_space.specs.Lines.{texts}
+use Rattle.white_space.specs.Trim.{trim_start, trim_end, trim}
 use Rattle.utf8.specs.Utf8.{encode, encodes}
-use Rattle.unicode.specs.White.{among}
+use Rattle.white_space.specs.White.{among}
 use Rattle.texts.specs.RegionText.{behind, text_of}
 
 -- a frame around five rows of five characters

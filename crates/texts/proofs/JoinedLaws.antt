@@ -8,8 +8,8 @@ use lib.Dec.{ltb, leb}
 use lib.ListN.{length, length-append}
 use borrow.Author.Tests.{lt-ltb, le-ltb}
 use Rattle.lists.specs.Choose.{choose}
-use Rattle.unicode.specs.Lines.{kept, texts}
-use Rattle.unicode.specs.Trim.{trim}
+use Rattle.white_space.specs.Lines.{kept, texts}
+use Rattle.white_space.specs.Trim.{trim}
 use Rattle.utf8.specs.Utf8.{encode, encodes}
 use Rattle.utf8.proofs.Inverse.{encodes-append}
 use Rattle.texts.specs.RegionText.{behind, joined}

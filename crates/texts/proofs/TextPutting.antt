@@ -10,8 +10,8 @@ use Rattle.lists.specs.Run.{run, build}
 use Rattle.model.specs.Limits.{text_bytes}
 use Rattle.model.specs.declared.Rect.{Rect}
 use Rattle.rects.specs.Rects.{RectIn}
-use Rattle.unicode.specs.Lines.{texts}
-use Rattle.unicode.specs.Trim.{trim, PartIn}
+use Rattle.white_space.specs.Lines.{texts}
+use Rattle.white_space.specs.Trim.{trim, PartIn}
 use Rattle.utf8.specs.Utf8.{encodes}
 use Rattle.texts.specs.RegionText.{joined, text_of}
 use Rattle.texts.specs.Rows.{next}

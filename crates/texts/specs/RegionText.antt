@@ -8,7 +8,7 @@ use Rattle.model.specs.Limits.{text_bytes}
 use Rattle.model.specs.Refusals.{Reading}
 use Rattle.model.specs.declared.Rect.{Rect}
 use Rattle.model.specs.declared.Refusal.TheVariants.{OverLimit}
-use Rattle.unicode.specs.Lines.{texts}
+use Rattle.white_space.specs.Lines.{texts}
 use Rattle.utf8.specs.Utf8.{encodes}
 
 -- the characters between the sides of a frame, row by row; right and bottom are exclusive

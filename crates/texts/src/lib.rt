@@ -1,4 +1,5 @@
 // The texts of regions: the rows between a frame's sides, trimmed, joined with a blank, as UTF-8.
+#![tactic(auto)]
 ghost use Rattle.std.specs.Prelude.{◌≡◌, ◌+◌, ◌-◌, ◌*◌, ◌≤◌, ltb, length, take, drop};
 ghost use Rattle.lists.specs.Picture.{canvas};
 ghost use Rattle.model.specs.Limits.{text_bytes};
@@ -12,7 +13,7 @@ use model::Refusal;
 use model::limits::TEXT_BYTES;
 
 // So many bytes hold the texts, or why they do not.
-#[derive(Drop)]
+#[derive(Clone, Copy)]
 pub enum Gathered {
     Texts(usize),
     NotGathered(Refusal),
@@ -83,7 +84,7 @@ fn put_text(
     let mut y = r.top + 1;
     let mut at = start;
     while y < bottom {
-        let part = unicode::trim_codes_part(text, y * w + from, y * w + to);
+        let part = white_space::trim_codes_part(text, y * w + from, y * w + to);
         at = put_next(text, part.from, part.to, bytes, start, at);
         if TEXT_BYTES < at {
             return TEXT_BYTES + 1;

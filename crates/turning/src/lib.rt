@@ -1,4 +1,5 @@
 // The upright sheet of a plane, in a second slice.
+#![tactic(auto)]
 ghost use Rattle.std.specs.Prelude.{map, ◌≡◌, ◌≤◌, ◌<◌, ◌-◌, get_or, drop};
 ghost use Rattle.model.specs.Limits.{plane_cells};
 ghost use Rattle.cells.specs.Plane.{cell_at, cells_in, row_in, plane_in, PlaneFits, KeptBefore};
@@ -85,7 +86,7 @@ fn is_wide(plane: &[u32], n: usize, w: usize) -> bool
 }
 
 // So many rows stand in the slice, or why they cannot.
-#[derive(Drop)]
+#[derive(Clone, Copy)]
 pub enum Turned {
     Rows(usize),
     NotTurned(Refusal),

@@ -1,10 +1,11 @@
 // UTF-8 read: what stands at a place of the bytes.
+#![tactic(auto)]
 ghost use Rattle.std.specs.Prelude.{[], ◌∷◌, ◌≡◌, ◌+◌, ◌-◌, ◌<◌, ◌≤◌, length, drop};
 ghost use Rattle.utf8.specs.Utf8.{more, decode, tail, ◌–◌};
 ghost use Rattle.utf8.specs.Passed.{code_of, bytes_of};
 
 // What stands at a place: a code point with its number of bytes, an ill-formed sequence, or nothing.
-#[derive(Drop)]
+#[derive(Clone, Copy)]
 pub enum Decoded {
     Char(u32, usize),
     IllFormed,
@@ -177,7 +178,7 @@ pub fn next(s: &[u8], at: usize) -> Decoded
 }
 
 // Whether all bytes are well-formed, or else the index of the first sequence that is not.
-#[derive(Drop)]
+#[derive(Clone, Copy)]
 pub enum Checked {
     Valid,
     Invalid(usize),

@@ -1,4 +1,5 @@
 // The value split: the allowed values and the default of an output clause.
+#![tactic(auto)]
 ghost use Rattle.std.specs.Prelude.{◌≡◌, length, take};
 ghost use Rattle.emphasis.specs.Emphasis.{choice_of};
 ghost use Rattle.utils.specs.Split.{split_by, split_of, scratch_by, scratch_of, answered, Places, allowed_in};
@@ -8,7 +9,7 @@ use utf8::Checked;
 
 // What the split answers: the own text is the allowed values and there is no default; or so many bytes of the
 // scratch slice are, and the default stands in the text from one place up to another; or a refusal.
-#[derive(Drop)]
+#[derive(Clone, Copy)]
 pub enum Split {
     Own,
     Rewritten(usize, usize, usize),

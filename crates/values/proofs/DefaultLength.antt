@@ -10,9 +10,9 @@ use lib.ListN.{length}
 use Rattle.lists.specs.Choose.{choose}
 use Rattle.lists.proofs.AllLaws.{All}
 use Rattle.lists.proofs.Tests.{by_flag}
-use Rattle.unicode.specs.Lines.{join}
-use Rattle.unicode.specs.Trim.{trim_start_utf8, trim_utf8}
-use Rattle.unicode.proofs.TrimLength.{trim-length}
+use Rattle.white_space.specs.Lines.{join}
+use Rattle.white_space.specs.Trim.{trim_start_utf8, trim_utf8}
+use Rattle.white_space.proofs.TrimLength.{trim-length}
 use Rattle.emphasis.specs.Commas.{comma, parts}
 use Rattle.emphasis.specs.Emphasis.{Choice, plain, marked, marks, placed, or_else, starts_with, ends_with, emphasised, first_marked, choice_of}
 use Rattle.emphasis.proofs.Stripping.{strip-length}

@@ -1,11 +1,12 @@
 // The values of a text: its allowed values and its default, measured and written.
+#![tactic(auto)]
 ghost use Rattle.std.specs.Prelude.{◌≡◌, ◌+◌, ◌≤◌, length};
 ghost use Rattle.lists.specs.Put.{put};
 ghost use Rattle.values.specs.Values.{values_of, MeasuredOf};
 
 // What a text's values come to: the text itself; or so many bytes of rewritten text, and a default that stands in the
 // text from one place up to another.
-#[derive(Drop)]
+#[derive(Clone, Copy)]
 pub enum Measured {
     Plain,
     Marked(usize, usize, usize),

@@ -1,4 +1,5 @@
 // Walks along the rows and columns of a layer.
+#![tactic(auto)]
 ghost use Rattle.std.specs.Prelude.{◌≡◌, List, ℕ, ◌<◌, length};
 ghost use Rattle.lists.specs.Picture.{canvas};
 ghost use Rattle.walks.specs.Walk.{walk_of, ahead, go_of, steps_in};
@@ -8,7 +9,7 @@ ghost use Rattle.walks.specs.Line.{back_of, step_of, line_of, Reach, next_of, Ne
 
 use model::{Rect, Refusal};
 
-#[derive(Drop)]
+#[derive(Clone, Copy)]
 pub enum Direction {
     Right,
     Down,
@@ -17,28 +18,28 @@ pub enum Direction {
 }
 
 // How a walk ends: after so many steps at a searched character, or refused.
-#[derive(Drop)]
+#[derive(Clone, Copy)]
 pub enum Walked {
     Steps(usize),
     Stopped(Refusal),
 }
 
 // What four walks around a frame find.
-#[derive(Drop)]
+#[derive(Clone, Copy)]
 pub enum Framed {
     Closed(Rect),
     NotFramed(Refusal),
 }
 
 // A set of box characters: bit k of `light` is for the character 0x2500 + k, bit k of `double` for 0x2540 + k.
-#[derive(Drop)]
+#[derive(Clone, Copy)]
 pub struct Set {
     pub light: u64,
     pub double: u64,
 }
 
 // What a walk searches for, with the first of it by itself, and what it goes over, with the plain character of the line by itself.
-#[derive(Drop)]
+#[derive(Clone, Copy)]
 pub struct Characters {
     pub searched: Set,
     pub wanted: u32,

@@ -1,6 +1,6 @@
 -- `scan::put_row` meets its contract.
 use borrow.Author.Rules.{rules}
-use Rattle.unicode.specs.Lines.{codes_at}
+use Rattle.white_space.specs.Lines.{codes_at}
 use Rattle.scan.proofs.RowPutting.{row_written, blanks_written}
 use Rattle.scan.proofs.put_row.Statement.{statement}
 use Rattle.scan.proofs.put_row.Tie as tie

@@ -4,7 +4,7 @@ use Prim.Native.Nat.{◌-◌}
 use native.Mathlib.Omega.{arith}
 use lib.ListN.{length}
 use borrow.Author.Rules.{rules}
-use Rattle.unicode.specs.Lines.{ValidTo}
+use Rattle.white_space.specs.Lines.{ValidTo}
 use Rattle.sheet_rows.proofs.Measuring.{Measuring, measuring_start, measuring_none, measuring_more, measuring_last, measuring_end, valid_more}
 use Rattle.sheet_rows.proofs.Keeping.{Keeping, keeping_start, keeping_none, keeping_more, keeping_last, keeping_end}
 use Rattle.sheet_rows.proofs.measure.Statement.{statement}

@@ -3,7 +3,7 @@ use Prim.Native.Nat.{◌-◌}
 use native.Mathlib.Omega.{arith}
 use lib.ListN.{length}
 use borrow.Author.Rules.{rules}
-use Rattle.unicode.specs.Lines.{ValidTo}
+use Rattle.white_space.specs.Lines.{ValidTo}
 use Rattle.sheet_rows.proofs.Measuring.{Seeking, seeking_start, seeking_more, seeking_found, seeking_end, valid_start, valid_more}
 use Rattle.sheet_rows.proofs.sheet_start.Statement.{statement}
 use Rattle.sheet_rows.proofs.sheet_start.Tie as tie

@@ -7,7 +7,7 @@ use lib.ListN.{length, drop}
 use Rattle.utf8.specs.Utf8.{decode}
 use Rattle.utf8.specs.Passed.{code_of}
 use Rattle.text_lines.specs.declared.Seen.TheVariants.{Text, White, LineFeed, Nothing}
-use Rattle.unicode.proofs.WhiteLaws.{dark_no_feed}
+use Rattle.white_space.proofs.WhiteLaws.{dark_no_feed}
 use Rattle.text_lines.proofs.LineReading.{Scanned, scan_start, scan_fits, scan_white, scan_dark, scan_feed, scan_stop, scan_end, found_in}
 use Rattle.text_lines.proofs.SeenLaws.{Told, told, feed_byte, none_left}
 use Rattle.text_lines.proofs.line_rest.Statement.{statement}
