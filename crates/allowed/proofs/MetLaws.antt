@@ -1,6 +1,6 @@
 -- Regions met twice: in the cells of a row, and in the row above.
 use mathlib.Core.Path.{◌≡◌, refl, sym, ap, ◌∙◌}
-use mathlib.Core.Bool.{Bool, true, false, ◌||◌, or_comm, or_assoc, or_false}
+use mathlib.Core.Bool.{Bool, true, false, ◌||◌, or_comm, or_assoc, or-false}
 use mathlib.Core.List.{List, [], ◌∷◌}
 use Prim.Native.Nat.{ℕ, zero, suc, ◌+◌, ◌-◌, ◌/◌, ◌%◌, ◌≤◌, ◌<◌}
 use native.Mathlib.Numerals.{add-one}
@@ -75,7 +75,7 @@ module _ (d : List ℕ) (y x a : ℕ) where
 
   met_any : (n : ℕ) → one_of a (met d y x n []) ≡ any_at holds_at n
   unfolding one_of
-  met_any n = met_or n [] ∙ or_false (any_at holds_at n)
+  met_any n = met_or n [] ∙ or-false (any_at holds_at n)
 
   -- it is among them, or it is not
   pub met-here : (n : ℕ) (s : List ℕ) {t : Bool} → t ≡ one_of a (met d y x n []) → t ≡ true → true ≡ one_of a (met d y x n s)

@@ -1,0 +1,28 @@
+-- `allowed::row_apart` meets its contract.
+use Prim.Native.Nat.{◌-◌}
+use Rattle.allowed.proofs.MetLaws.{region_number_lem, meet_start, meet_out, meet_twice, meet_next, meet_end}
+use Rattle.allowed.proofs.row_apart.Goals as goal
+
+pub loop-i-init : goal.loop-i-init
+loop-i-init c = meet_start _ _ _ _ _ _
+
+pub is_met-requires : goal.is_met-requires
+is_met-requires c =
+    let p = c.requires in
+    ((p.0.0.room, p.0.1, p.0.2, c.loop-i.invariant.within), p.1)
+
+pub returns-then-is_met : goal.returns-then-is_met
+returns-then-is_met c =
+    meet_twice c.loop-i.invariant c.loop-i-test.true (rw c.in-Number.is at c.region_at.ensures) c.is_met.ensures c.if-is_met.true
+
+pub returns-in-NotRead : goal.returns-in-NotRead
+returns-in-NotRead c =
+    meet_out c.loop-i.invariant c.loop-i-test.true (rw c.in-NotRead.is at c.region_at.ensures)
+
+pub loop-i-preserved : goal.loop-i-preserved
+loop-i-preserved c =
+    let e = rw c.in-Number.is at c.region_at.ensures in
+    meet_next c.loop-i.invariant c.loop-i-test.true e c.is_met.ensures c.if-is_met.false (region_number_lem _ _ _ _ _ e)
+
+pub returns : goal.returns
+returns c = meet_end c.loop-i.invariant c.loop-i-test.false

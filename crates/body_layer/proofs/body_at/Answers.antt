@@ -1,0 +1,5 @@
+-- `body_layer::body_at` meets its contract.
+use Rattle.body_layer.proofs.body_at.Goals as goal
+
+pub returns : goal.returns
+returns c = (rw c.body-c.ensures, rw c.body-c.ensures)

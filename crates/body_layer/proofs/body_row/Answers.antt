@@ -1,0 +1,19 @@
+-- `body_layer::body_row` meets its contract. The invariant: the first k characters of the row are made, in BODY and in GRID.
+use Prim.Native.Nat.{◌-◌}
+use Rattle.thin_layer.proofs.Turning.{turning_start, turning_more, turning_end}
+use Rattle.body_layer.proofs.body_row.Goals as goal
+
+pub loop-k-init : goal.loop-k-init
+loop-k-init c = (turning_start _ _ _, turning_start _ _ _)
+
+pub loop-k-preserved : goal.loop-k-preserved
+loop-k-preserved c =
+    let l = c.loop-k in
+    let t = c.loop-k-test.true in
+    let e = c.body_at in
+    (turning_more l.invariant.0 _ t e.auto.1.1.0 e.ensures.0, turning_more l.invariant.1 _ t e.auto.1.1.1.0 e.ensures.1)
+
+pub returns : goal.returns
+returns c =
+    let l = c.loop-k in
+    (turning_end l.invariant.0 c.loop-k-test.false, turning_end l.invariant.1 c.loop-k-test.false)

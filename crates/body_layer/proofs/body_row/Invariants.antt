@@ -1,0 +1,14 @@
+use Prim.Native.Nat.{◌+◌, ◌-◌}
+use lib.ListN.{get_or}
+use Rattle.lists.specs.Line.{store_at}
+use Rattle.body_layer.specs.Body.{body_code, shaded_code}
+use Rattle.thin_layer.proofs.Turning.{Turning}
+use Rattle.body_layer.proofs.body_row.Given as goal
+
+abbrev pub invariant-loop-k : goal.invariant-loop-k
+invariant-loop-k l =
+    Turning (store_at (λ i. l.base + i) (λ i. body_code l.top l.y (get_or l.thins (l.base + i) 0))) l.n l.initial.bodies l.bodies l.k
+    × Turning (store_at (λ i. l.base + i) (λ i. shaded_code l.top l.y)) l.n l.initial.grid l.grid l.k
+
+abbrev pub decreases-loop-k : goal.decreases-loop-k
+decreases-loop-k l = l.n - l.k

@@ -1,0 +1,51 @@
+-- `builder::read_sheet` meets its contract.
+use mathlib.Core.List.{List, [], ◌∷◌}
+use mathlib.Core.Path.{sym, ap, ◌∙◌, refl}
+use Prim.Native.Nat.{ℕ}
+use Rattle.policies.specs.DrawnPolicy.{walked_policy}
+use Rattle.room.specs.Room.{room_in}
+use Rattle.builder.specs.SheetEnd.{sheet_sizes}
+use Rattle.ends.proofs.EndLaws.{end_short}
+use Rattle.builder.proofs.read_sheet.Goals as goal
+use Rattle.builder.proofs.read_sheet.Tie as tie
+
+abbrev works : tie.Start → List (List ℕ)
+works s = s.args.text.now ∷ s.args.thins.now ∷ s.args.bodies.now ∷ s.args.grid.now ∷ s.args.spans.now ∷ s.args.bytes.now ∷ []
+
+pub slice_bounds-work_slices-end : goal.slice_bounds-work_slices-end
+slice_bounds-work_slices-end c = refl
+
+pub slice_bounds-work_slices-end-2 : goal.slice_bounds-work_slices-end-2
+slice_bounds-work_slices-end-2 c = refl
+
+pub sheet_cleared-requires : goal.sheet_cleared-requires
+sheet_cleared-requires c =
+    sym c.work_slices.ensures ∙ ap room_in c.in-Enough.is
+
+pub shape_of-text : goal.shape_of-text
+shape_of-text c = c.sheet_cleared.auto.text
+
+pub shape_of-thins : goal.shape_of-thins
+shape_of-thins c = c.sheet_cleared.auto.thins
+
+pub shape_of-bodies : goal.shape_of-bodies
+shape_of-bodies c = c.sheet_cleared.auto.bodies
+
+pub shape_of-grid : goal.shape_of-grid
+shape_of-grid c = c.sheet_cleared.auto.grid
+
+pub shape_of-spans : goal.shape_of-spans
+shape_of-spans c = c.sheet_cleared.auto.spans
+
+pub shape_of-bytes : goal.shape_of-bytes
+shape_of-bytes c = c.sheet_cleared.auto.bytes
+
+pub shape_of-out : goal.shape_of-out
+shape_of-out c = c.sheet_cleared.auto.out
+
+pub returns-in-Enough : goal.returns-in-Enough
+returns-in-Enough c = c.sheet_cleared.ensures
+
+pub returns-in-Short : goal.returns-in-Short
+returns-in-Short c =
+    end_short sheet_sizes (walked_policy c.args.s.now) (works c.before.before.before.before.before.before.before.before.before.before.before.before.before.before.before) c.args.out.now _ (ap room_in (sym c.in-Short.is) ∙ c.work_slices.ensures)

@@ -1,0 +1,53 @@
+-- `builder::sheet_cleared` meets its contract.
+use mathlib.Core.List.{List, [], ◌∷◌}
+use mathlib.Core.Path.{◌∙◌}
+use Prim.Native.Nat.{ℕ}
+use Rattle.policies.specs.DrawnPolicy.{walked_policy}
+use Rattle.builder.specs.SheetEnd.{sheet_sizes}
+use Rattle.ends.proofs.EndLaws.{Cleared, none, one, cleared_all, zeros-same, end_cleared}
+use Rattle.builder.proofs.RoomLaws.{sheet-room}
+use Rattle.builder.proofs.sheet_cleared.Goals as goal
+use Rattle.builder.proofs.sheet_cleared.Tie as tie
+
+abbrev before : tie.Start → List (List ℕ)
+before s = s.args.text.now ∷ s.args.thins.now ∷ s.args.bodies.now ∷ s.args.grid.now ∷ s.args.spans.now ∷ s.args.bytes.now ∷ []
+
+abbrev after : tie.After-slice_known-20-1 → List (List ℕ)
+after c = c.clear_four.new.a ∷ c.clear_four.new.b ∷ c.clear_four.new.c ∷ c.clear_four.new.d ∷ c.clear_u32.new.s ∷ c.clear_u8.new.s ∷ []
+
+gone : (c : tie.After-slice_known-20-1) → Cleared (after c) (before (start c))
+gone c =
+    let r = c.sheet_record-r in
+    let s = c.args in
+    one (c.clear_four.ensures.0 ∙ zeros-same r.last.1.0 s.text.now r.kept.1.0) (one (c.clear_four.ensures.1 ∙ zeros-same r.last.1.1.0 s.thins.now r.kept.1.1.0) (one (c.clear_four.ensures.2 ∙ zeros-same r.last.1.1.1.0 s.bodies.now r.kept.1.1.1.0) (one (c.clear_four.ensures.3 ∙ zeros-same r.last.1.1.1.1.0 s.grid.now r.kept.1.1.1.1.0) (one (c.clear_u32.ensures ∙ zeros-same r.last.1.1.1.1.1.0 s.spans.now r.kept.1.1.1.1.1.0) (one (c.clear_u8.ensures ∙ zeros-same r.last.1.1.1.1.1.1.0 s.bytes.now r.kept.1.1.1.1.1.1.0) (none))))))
+
+pub sheet_record-r-requires : goal.sheet_record-r-requires
+sheet_record-r-requires c =
+    let a = c.args in
+    sheet-room a.text.now a.thins.now a.bodies.now a.grid.now a.spans.now a.bytes.now c.requires
+
+pub shape_of-text : goal.shape_of-text
+shape_of-text c = c.clear_four.auto.a ∙ c.sheet_record-r.auto.text
+
+pub shape_of-thins : goal.shape_of-thins
+shape_of-thins c = c.clear_four.auto.b ∙ c.sheet_record-r.auto.thins
+
+pub shape_of-bodies : goal.shape_of-bodies
+shape_of-bodies c = c.clear_four.auto.c ∙ c.sheet_record-r.auto.bodies
+
+pub shape_of-grid : goal.shape_of-grid
+shape_of-grid c = c.clear_four.auto.d ∙ c.sheet_record-r.auto.grid
+
+pub shape_of-spans : goal.shape_of-spans
+shape_of-spans c = c.clear_u32.auto.s ∙ c.sheet_record-r.auto.spans
+
+pub shape_of-bytes : goal.shape_of-bytes
+shape_of-bytes c = c.clear_u8.auto.s ∙ c.sheet_record-r.auto.bytes
+
+pub shape_of-out : goal.shape_of-out
+shape_of-out c = c.sheet_record-r.auto.out
+
+pub returns : goal.returns
+returns c =
+    let r = c.sheet_record-r in
+    end_cleared sheet_sizes (walked_policy c.args.s.now) (before c.before.before.before.before.before.before.before.before.before.before.before.before.before.before.before.before.before.before.before.before.before.before.before.before.before.before.before.before.before.before.before.before.before.before.before.before.before.before.before.before.before.before.before.before.before.before.before.before.before.before.before.before) (after c.before) c.args.out.now r.last.1.1.1.1.1.1.1.0 r.result c.requires r.ensures.0 r.ensures.1 (cleared_all (gone c.before))

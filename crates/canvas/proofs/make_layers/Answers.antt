@@ -1,0 +1,12 @@
+-- `canvas::make_layers` meets its contract.
+use mathlib.Core.Path.{ap, ◌∙◌}
+use Rattle.lists.specs.Picture.{Picture, canvas}
+use Rattle.body_layer.specs.Body.{body_picture}
+use Rattle.grid_layer.specs.Grid.{grid_picture}
+use Rattle.canvas.proofs.make_layers.Goals as goal
+
+pub returns : goal.returns
+returns c =
+    let a = c.args in
+    let body = c.make_body.ensures.bodies_after ∙ ap (λ (T : Picture). body_picture a.r T (canvas a.width a.rows a.bodies.now)) c.make_thin.ensures in
+    (c.make_thin.ensures, (body, c.make_grid.ensures ∙ ap (grid_picture a.r) body))

@@ -1,0 +1,8 @@
+-- `drawn_records::write_drawn` meets its contract.
+use Rattle.drawn_records.proofs.write_drawn.Goals as goal
+
+pub write_recognized-requires : goal.write_recognized-requires
+write_recognized-requires c = let p = c.requires in rw c.texts_in.ensures (p.0, p.2)
+
+pub returns : goal.returns
+returns c = rw c.texts_in.ensures at c.write_recognized.ensures

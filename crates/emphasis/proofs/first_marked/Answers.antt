@@ -1,0 +1,31 @@
+-- `emphasis::first_marked` meets its contract.
+use Prim.Native.Nat.{◌-◌}
+use native.Mathlib.Omega.{arith}
+use Rattle.emphasis.proofs.Finding.{finding_start, finding_fits, finding_hit, finding_last, finding_more}
+use Rattle.emphasis.proofs.first_marked.Goals as goal
+
+pub loop-at-init : goal.loop-at-init
+loop-at-init c = finding_start
+
+pub overflow_add-result : goal.overflow_add-result
+overflow_add-result c =
+    omega (arith, finding_fits c.loop-at.invariant c.part_end-end.ensures c.trim_utf8_part-t.ensures c.mark_of-m.ensures, c.mark_of-m.ensures.ordered)
+
+pub overflow_add-result-then-m : goal.overflow_add-result-then-m
+overflow_add-result-then-m c =
+    omega (arith, finding_fits c.loop-at.invariant c.part_end-end.ensures c.trim_utf8_part-t.ensures c.mark_of-m.ensures)
+
+pub returns-then-m : goal.returns-then-m
+returns-then-m c =
+    finding_hit c.loop-at.invariant c.part_end-end.ensures c.trim_utf8_part-t.ensures c.mark_of-m.ensures c.if-m.true
+
+pub returns-then-end-s : goal.returns-then-end-s
+returns-then-end-s c =
+    finding_last c.loop-at.invariant c.part_end-end.ensures c.trim_utf8_part-t.ensures c.mark_of-m.ensures c.if-m.false c.if-end-s.true
+
+pub loop-at-preserved : goal.loop-at-preserved
+loop-at-preserved c =
+    finding_more c.loop-at.invariant c.part_end-end.ensures c.trim_utf8_part-t.ensures c.mark_of-m.ensures c.if-m.false c.if-end-s.false
+
+pub returns : goal.returns
+returns c = absurd (omega arith)

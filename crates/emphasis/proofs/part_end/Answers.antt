@@ -1,0 +1,16 @@
+-- `emphasis::part_end` meets its contract.
+use Prim.Native.Nat.{◌-◌}
+use Rattle.emphasis.proofs.Commas.{seeking_start, seeking_end, seeking_found, seeking_more}
+use Rattle.emphasis.proofs.part_end.Goals as goal
+
+pub loop-i-init : goal.loop-i-init
+loop-i-init c = seeking_start c.requires
+
+pub returns-then-s-i-eq44 : goal.returns-then-s-i-eq44
+returns-then-s-i-eq44 c = seeking_found c.loop-i.invariant c.loop-i-test.true c.if-s-i-eq44.true
+
+pub loop-i-preserved : goal.loop-i-preserved
+loop-i-preserved c = seeking_more c.loop-i.invariant c.loop-i-test.true c.if-s-i-eq44.false
+
+pub returns : goal.returns
+returns c = seeking_end c.loop-i.invariant c.loop-i-test.false

@@ -1,0 +1,56 @@
+-- `lent::load_rows` meets its contract.
+use mathlib.Core.Path.{◌∙◌}
+use Prim.Native.Nat.{◌-◌}
+use lib.ListN.{length}
+use Rattle.cells.proofs.PlaneLaws.{kept-fits}
+use Rattle.cells.proofs.FillLaws.{plane-start, plane-next, plane_end}
+use Rattle.lent.proofs.SumLaws.{start_zero, start-next, row_within}
+use Rattle.lent.proofs.CutLaws.{row_at, cut-rows}
+use Rattle.lent.proofs.KindLaws.{lent_cell}
+use native.Mathlib.Omega.{arith}
+use Rattle.lent.proofs.load_rows.Goals as goal
+
+pub loop-row-init : goal.loop-row-init
+loop-row-init c = (omega arith, start_zero c.args.rows.now, plane-start _ _ c.requires.1)
+
+pub overflow_cast-n : goal.overflow_cast-n
+overflow_cast-n c = omega (arith, c.shared_slice_known-in-loop-row-1.given c.loop-row.row)
+
+pub load_row-requires : goal.load_row-requires
+load_row-requires c =
+    let h = c.loop-row-test.true in
+    let p = c.requires in (
+      p.0.cells,
+      omega (arith, c.loop-row.invariant.1, row_within c.args.rows.now c.loop-row.row h, p.0.total),
+      p.0.short _ h,
+      omega (arith, h, p.0.few),
+      omega (arith, c.loop-row.invariant.2.same, p.1),
+    )
+
+pub end_row-requires : goal.end_row-requires
+end_row-requires c =
+    let h = c.loop-row-test.true in
+    let p = c.requires in
+    (kept-fits _ _ _ c.load_row.ensures.before c.load_row.auto.plane c.loop-row.invariant.2.fits, omega (arith, h, p.0.few), p.0.short _ h)
+
+pub overflow_add-at : goal.overflow_add-at
+overflow_add-at c =
+    omega (arith, c.loop-row.invariant.1, row_within c.args.rows.now c.loop-row.row c.loop-row-test.true, c.requires.0.total, c.well_formed)
+
+pub loop-row-preserved : goal.loop-row-preserved
+loop-row-preserved c =
+    let h = c.loop-row-test.true in
+    let a = c.args in
+    let i = c.loop-row.invariant in (
+      omega (arith, h),
+      rw i.1 (start-next a.rows.now c.loop-row.row h),
+      plane-next _ _ _ _ _ _ _ i.2 c.load_row.auto.plane c.load_row.ensures.before
+          (c.load_row.ensures.cells ∙ row_at a.rows.now (lent_cell a.kinds.now a.regions.now) c.loop-row.row c.loop-row.at i.1)
+          c.end_row.auto.plane c.end_row.ensures.rows c.end_row.ensures.fits,
+    )
+
+pub returns : goal.returns
+returns c =
+    let a = c.args in
+    let f = plane_end _ _ _ (length a.rows.now) _ c.loop-row.invariant.2 c.loop-row.invariant.0 c.loop-row-test.false in
+    (f.plane ∙ cut-rows a.rows.now (length a.kinds.now) (lent_cell a.kinds.now a.regions.now) c.requires.0.total, f.fits)

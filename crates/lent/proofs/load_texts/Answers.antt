@@ -1,0 +1,63 @@
+-- `lent::load_texts` meets its contract.
+use Prim.Native.Nat.{◌+◌, ◌-◌, ◌*◌, ◌<◌}
+use lib.ListN.{length, get_or}
+use lib.Seq.{lt-length-set}
+use Rattle.cells.proofs.SpanLaws.{spans-start, spans-next, spans_end}
+use Rattle.lent.proofs.TextLaws.{part_trimmed}
+use native.Mathlib.Omega.{arith}
+use Rattle.lent.proofs.load_texts.Goals as goal
+
+pub loop-k-init : goal.loop-k-init
+loop-k-init c = (omega arith, spans-start _ _ _)
+
+pub overflow_cast-from : goal.overflow_cast-from
+overflow_cast-from c = omega (arith, c.shared_slice_known-in-loop-k-1.given c.loop-k.k)
+
+pub bounds-sizes-k : goal.bounds-sizes-k
+bounds-sizes-k c = omega (arith, c.loop-k-test.true, c.requires.0.same)
+
+pub overflow_cast-to : goal.overflow_cast-to
+overflow_cast-to c = omega (arith, c.shared_slice_known-in-loop-k-2-1.given c.loop-k.k)
+
+pub overflow_add-to : goal.overflow_add-to
+overflow_add-to c = let k = c.loop-k.k in omega (arith, c.shared_slice_known-in-loop-k-1.given k, c.shared_slice_known-in-loop-k-2-1.given k)
+
+pub trim_utf8_part-part-requires : goal.trim_utf8_part-part-requires
+trim_utf8_part-part-requires c =
+    (omega arith, c.requires.0.inside _ c.loop-k-test.true)
+
+pub overflow_cast-spans : goal.overflow_cast-spans
+overflow_cast-spans c = let p = c.trim_utf8_part-part.ensures in omega (arith, p.ordered, p.high, inside ⟪c.before⟫, few ⟪c.before⟫)
+
+pub overflow_mul-spans : goal.overflow_mul-spans
+overflow_mul-spans c = omega (arith, room ⟪c.before⟫)
+
+pub bounds-spans-k : goal.bounds-spans-k
+bounds-spans-k c = omega (arith, room ⟪c.before⟫)
+
+pub overflow_sub-spans : goal.overflow_sub-spans
+overflow_sub-spans c = omega (arith, c.trim_utf8_part-part.ensures.ordered)
+
+pub overflow_cast-spans-in-loop-k : goal.overflow_cast-spans-in-loop-k
+overflow_cast-spans-in-loop-k c = let p = c.trim_utf8_part-part.ensures in omega (arith, p.high, inside c, few c)
+
+pub bounds-spans-k-in-loop-k : goal.bounds-spans-k-in-loop-k
+bounds-spans-k-in-loop-k c =
+    let h : c.loop-k.k * 2 + 1 < length c.loop-k.spans = omega (arith, room c, c.loop-k.invariant.1.same) in
+    lt-length-set c.loop-k.spans (c.loop-k.k * 2) c.trim_utf8_part-part.result.from h
+
+pub loop-k-preserved : goal.loop-k-preserved
+loop-k-preserved c =
+    let p = c.trim_utf8_part-part.ensures in
+    let a = c.args in
+    let k = c.loop-k.k in (
+      omega (arith, c.loop-k-test.true),
+      spans-next _ _ _ _ k _ _ c.loop-k.invariant.1 (room c) (omega (arith, p.ordered, p.high, inside c))
+          (part_trimmed a.bytes.now (get_or a.offsets.now k 0) (get_or a.sizes.now k 0) _ c.trim_utf8_part-part.result.from c.trim_utf8_part-part.result.to p),
+    )
+
+pub returns : goal.returns
+returns c =
+    let a = c.args in
+    let f = spans_end _ _ _ _ (length a.offsets.now) _ c.loop-k.invariant.1 c.loop-k.invariant.0 c.loop-k-test.false in
+    (f.texts, record { inside = f.inside })

@@ -1,0 +1,13 @@
+use mathlib.Core.Path.{◌≡◌}
+use mathlib.Core.Bool.{true}
+use Prim.Native.Nat.{◌-◌, ◌≤◌}
+use lib.ListN.{length}
+use Rattle.lent.specs.LentPlane.{all_at}
+use Rattle.lent.proofs.TextLaws.{good_at}
+use Rattle.lent.proofs.parts_good.Given as goal
+
+abbrev pub invariant-loop-k : goal.invariant-loop-k
+invariant-loop-k l = (l.k ≤ length l.offsets) × (all_at (good_at l.offsets l.sizes l.bytes) l.k ≡ true)
+
+abbrev pub decreases-loop-k : goal.decreases-loop-k
+decreases-loop-k l = length l.offsets - l.k

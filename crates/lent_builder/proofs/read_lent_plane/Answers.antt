@@ -1,0 +1,52 @@
+-- `lent_builder::read_lent_plane` meets its contract.
+use mathlib.Core.List.{List, [], ◌∷◌}
+use mathlib.Core.Path.{sym, ap, ◌∙◌, refl}
+use Prim.Native.Nat.{ℕ}
+use Rattle.lent.specs.LentPlane.{LentPlane}
+use Rattle.policies.specs.LentPolicy.{lent_policy}
+use Rattle.room.specs.Room.{room_in}
+use Rattle.lent_builder.specs.LentEnd.{lent_sizes}
+use Rattle.ends.proofs.EndLaws.{end_short}
+use Rattle.lent_builder.proofs.read_lent_plane.Goals as goal
+use Rattle.lent_builder.proofs.read_lent_plane.Tie as tie
+
+abbrev works : tie.Start → List (List ℕ)
+works s = s.args.plane.now ∷ s.args.spans.now ∷ s.args.upright.now ∷ s.args.slots.now ∷ []
+
+abbrev lent : tie.Start → LentPlane
+lent s =
+    let a = s.args in
+    record { rows = a.rows.now; kinds = a.kinds.now; regions = a.regions.now; offsets = a.offsets.now; sizes = a.sizes.now; bytes = a.bytes.now }
+
+pub slice_bounds-work_slices-end : goal.slice_bounds-work_slices-end
+slice_bounds-work_slices-end c = refl
+
+pub slice_bounds-work_slices-end-2 : goal.slice_bounds-work_slices-end-2
+slice_bounds-work_slices-end-2 c = refl
+
+pub lent_cleared-requires : goal.lent_cleared-requires
+lent_cleared-requires c =
+    sym c.work_slices.ensures ∙ ap room_in c.in-Enough.is
+
+pub shape_of-plane : goal.shape_of-plane
+shape_of-plane c = c.lent_cleared.auto.plane
+
+pub shape_of-spans : goal.shape_of-spans
+shape_of-spans c = c.lent_cleared.auto.spans
+
+pub shape_of-upright : goal.shape_of-upright
+shape_of-upright c = c.lent_cleared.auto.upright
+
+pub shape_of-slots : goal.shape_of-slots
+shape_of-slots c = c.lent_cleared.auto.slots
+
+pub shape_of-out : goal.shape_of-out
+shape_of-out c = c.lent_cleared.auto.out
+
+pub returns-in-Enough : goal.returns-in-Enough
+returns-in-Enough c =
+    c.lent_cleared.ensures
+
+pub returns-in-Short : goal.returns-in-Short
+returns-in-Short c =
+    end_short lent_sizes (lent_policy (lent c.before.before.before.before.before.before.before.before.before.before.before.before.before.before.before.before.before.before)) (works c.before.before.before.before.before.before.before.before.before.before.before.before.before.before.before.before.before.before) c.args.out.now _ (ap room_in (sym c.in-Short.is) ∙ c.work_slices.ensures)

@@ -1,0 +1,39 @@
+-- `lent_reports::put_lent_plane` meets its contract.
+use mathlib.Core.Path.{refl}
+use Rattle.lent.specs.LentPlane.{LentPlane}
+use Rattle.policies.specs.LentPolicy.{lent_policy}
+use Rattle.print.proofs.WrittenLaws.{written_as}
+use Rattle.lent_builder.specs.LentEnd.{lent_sizes}
+use Rattle.outcome_lines.specs.PolicyLines.{record_bytes}
+use Rattle.outcome_lines.proofs.OutcomeLaws.{Reported, lent_printable, end_reported}
+use native.Mathlib.Omega.{arith}
+use borrow.Author.Rules.{rules}
+use Rattle.lent_reports.proofs.put_lent_plane.Goals as goal
+use Rattle.lent_reports.proofs.put_lent_plane.Tie as tie
+
+abbrev lent : tie.Start → LentPlane
+lent s = let a = s.args in record { rows = a.rows.now; kinds = a.kinds.now; regions = a.regions.now; offsets = a.offsets.now; sizes = a.sizes.now; bytes = a.bytes.now }
+
+told : (c : tie.After-read_lent_plane-stated) → Reported (lent_policy (lent c.before.before.before.before.before.before.before.before.before.before.before.before.before)) record_bytes c.read_lent_plane-stated.result c.read_lent_plane-stated.new.out
+told c = end_reported lent_sizes (lent_policy (lent c.before.before.before.before.before.before.before.before.before.before.before.before.before)) _ _ _ _ _ record_bytes (lent_printable (lent c.before.before.before.before.before.before.before.before.before.before.before.before.before)) (search rules) (search rules) c.read_lent_plane-stated.ensures
+
+pub slice_bounds-read_lent_plane-end : goal.slice_bounds-read_lent_plane-end
+slice_bounds-read_lent_plane-end c = refl
+
+pub slice_bounds-read_lent_plane-end-2 : goal.slice_bounds-read_lent_plane-end-2
+slice_bounds-read_lent_plane-end-2 c = refl
+
+pub slice_bounds-read_lent_plane-end-3 : goal.slice_bounds-read_lent_plane-end-3
+slice_bounds-read_lent_plane-end-3 c = refl
+
+pub slice_bounds-read_lent_plane-end-4 : goal.slice_bounds-read_lent_plane-end-4
+slice_bounds-read_lent_plane-end-4 c = refl
+
+pub slice_bounds-read_lent_plane-end-5 : goal.slice_bounds-read_lent_plane-end-5
+slice_bounds-read_lent_plane-end-5 c = refl
+
+pub put_outcome-requires : goal.put_outcome-requires
+put_outcome-requires c = (omega (arith, c.requires), omega (arith, c.read_lent_plane-stated.auto.out), (told c.before.before.before.before.before.before.before.before).sound)
+
+pub returns : goal.returns
+returns c = written_as c.put_outcome.ensures (told c.before.before.before.before.before.before.before.before.before.before.before).lines

@@ -1,0 +1,16 @@
+-- `lines::find` meets its contract.
+use Prim.Native.Nat.{◌-◌}
+use Rattle.lines.proofs.Finding.{seeking_start, seeking_end, seeking_found, seeking_more}
+use Rattle.lines.proofs.find.Goals as goal
+
+pub loop-i-init : goal.loop-i-init
+loop-i-init c = seeking_start c.requires
+
+pub returns-then-s-i : goal.returns-then-s-i
+returns-then-s-i c = seeking_found c.loop-i.invariant c.loop-i-test.true c.if-s-i.true
+
+pub loop-i-preserved : goal.loop-i-preserved
+loop-i-preserved c = seeking_more c.loop-i.invariant c.loop-i-test.true c.if-s-i.false
+
+pub returns : goal.returns
+returns c = seeking_end c.loop-i.invariant c.loop-i-test.false

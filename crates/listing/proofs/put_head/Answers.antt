@@ -1,0 +1,31 @@
+-- `listing::put_head` meets its contract.
+use mathlib.Core.Path.{refl}
+use Rattle.print.proofs.WrittenLaws.{written_within}
+use Rattle.listing.specs.RecordLines.{head_lines}
+use Rattle.listing.proofs.LineLaws.{written_four}
+use native.Mathlib.Omega.{arith}
+use Rattle.listing.proofs.put_head.Goals as goal
+use Rattle.listing.proofs.put_head.Tie as tie
+
+-- LEFT slice-aggregate-put-line : tie.Need-slice-aggregate-put-line
+-- slice-aggregate-put-line c = refl
+
+-- LEFT slice-aggregate-put-line-2 : tie.Need-slice-aggregate-put-line-2
+-- slice-aggregate-put-line-2 c = refl
+
+-- LEFT slice-aggregate-put-line-3 : tie.Need-slice-aggregate-put-line-3
+-- slice-aggregate-put-line-3 c = refl
+
+pub returns : goal.returns
+unfolding head_lines
+returns c =
+    written_within
+    (written_four
+    c.put_line-a.ensures
+    c.put_line-b.ensures
+    c.put_line-c.ensures
+    c.put_counts.ensures
+    c.put_line-a.auto.out
+    c.put_line-b.auto.out
+    (omega arith))
+    (omega arith)

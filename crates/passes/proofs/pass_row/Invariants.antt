@@ -1,0 +1,11 @@
+use Prim.Native.Nat.{◌+◌, ◌-◌}
+use Rattle.cells.specs.Plane.{plane_in}
+use Rattle.passes.specs.Passes.{fine}
+use Rattle.passes.proofs.PassLaws.{Passed}
+use Rattle.passes.proofs.pass_row.Given as goal
+
+abbrev pub invariant-loop-i : goal.invariant-loop-i
+invariant-loop-i l = Passed (fine (plane_in l.plane l.rows) l.y) l.x l.n (l.x + l.i)
+
+abbrev pub decreases-loop-i : goal.decreases-loop-i
+decreases-loop-i l = l.n - l.i

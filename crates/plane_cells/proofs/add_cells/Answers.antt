@@ -1,0 +1,87 @@
+-- `plane_cells::add_cells` meets its contract.
+use mathlib.Core.Path.{◌≡◌, ap, ◌∙◌}
+use mathlib.Core.Bool.{Bool}
+use Prim.Native.Nat.{◌+◌, ◌<◌}
+use native.Mathlib.Omega.{arith}
+use lib.Dec.{eqb}
+use Rattle.lists.specs.Choose.{choose}
+use Rattle.model.specs.Limits.{plane_rows, plane_cells}
+use Rattle.cells.proofs.PlaneLaws.{kept_refl, kept_then}
+use Rattle.plane_cells.specs.Row.{is_at}
+use Rattle.plane_cells.proofs.CellLaws.{one_few, row_over, cells_over, cells_added}
+use Rattle.plane_cells.proofs.add_cells.Goals as goal
+use Rattle.plane_cells.proofs.add_cells.Tie as tie
+
+abbrev is_output : tie.Start → Bool
+is_output t = eqb t.args.x t.args.o.x
+
+abbrev is_annotation : tie.Start → Bool
+is_annotation t = is_at t.args.o.right t.args.x
+
+low : (c : tie.After-one_if-2) → (start c).args.row < plane_rows
+low c = c.if-row-ge-PLANE_ROWS.false
+
+told : (c : tie.After-one_if-2) → c.is_at-is_annotation.result ≡ is_annotation c.before.before.before.before.before.before
+told c = c.is_at-is_annotation.ensures
+
+output_one : (c : tie.After-one_if-2) → c.one_if.result ≡ choose (is_output c.before.before.before.before.before.before) 1 0
+output_one c = c.one_if.ensures
+
+annotation_one : (c : tie.After-one_if-2) → c.one_if-2.result ≡ choose (is_annotation c.before.before.before.before.before.before) 1 0
+annotation_one c = c.one_if-2.ensures ∙ ap (λ (b : Bool). choose b 1 0) (told c)
+
+ends : (a : tie.After-add_line_if-a) → a.add_line_if-a.result ≡ a.args.s.cells + choose (is_output a.before.before.before.before.before.before.before.before.before) 1 0
+ends a = a.add_line_if-a.ensures.ends
+
+ends_2 : (b : tie.After-add_line_if-b) → b.add_line_if-b.result ≡ b.add_line_if-a.result + choose (is_annotation b.before.before.before.before.before.before.before.before.before.before.before.before.before) 1 0
+ends_2 b = b.add_line_if-b.ensures.ends ∙ ap (λ (u : Bool). b.add_line_if-a.result + choose u 1 0) (told b.before.before.before.before.before.before.before)
+
+-- the frame's own cell fits behind the double lines
+room : (b : tie.After-add_line_if-b) → b.add_line_if-b.result < plane_cells
+room b =
+    omega (arith, b.if-from-one_if-gt-PLANE_CELLS.left, ends b.before.before.before.before, ends_2 b, output_one b.before.before.before.before.before.before.before, annotation_one b.before.before.before.before.before.before.before)
+
+pub returns-then-row-ge-PLANE_ROWS : goal.returns-then-row-ge-PLANE_ROWS
+returns-then-row-ge-PLANE_ROWS c =
+    (row_over c.args.o c.args.x c.args.region c.args.row c.args.s c.args.plane.now c.if-row-ge-PLANE_ROWS.true, (tt, kept_refl c.args.plane.now c.args.row))
+
+pub overflow_add-from : goal.overflow_add-from
+overflow_add-from c =
+    omega (arith, c.requires.1.few, c.one_if.ensures, one_few (is_output c.before.before.before.before.before.before))
+
+pub overflow_add-from-2 : goal.overflow_add-from-2
+overflow_add-from-2 c = omega (arith, output_one c.before, annotation_one c.before, c.requires.1.few, one_few (is_output c.before.before.before.before.before.before.before), one_few (is_annotation c.before.before.before.before.before.before.before))
+
+pub overflow_add-from-3 : goal.overflow_add-from-3
+overflow_add-from-3 c = omega (arith, output_one c.before, annotation_one c.before, c.requires.1.few, one_few (is_output c.before.before.before.before.before.before.before), one_few (is_annotation c.before.before.before.before.before.before.before))
+
+pub returns-then-from-one_if-gt-PLANE_CELLS : goal.returns-then-from-one_if-gt-PLANE_CELLS
+returns-then-from-one_if-gt-PLANE_CELLS c =
+    (cells_over c.args.o c.args.x c.args.region c.args.row c.args.s c.args.plane.now (low c.before.before) (omega (arith, output_one c.before.before, annotation_one c.before.before, c.if-from-one_if-gt-PLANE_CELLS.true)), (tt, kept_refl c.args.plane.now c.args.row))
+
+pub add_line_if-a-requires : goal.add_line_if-a-requires
+add_line_if-a-requires c =
+    (low c.before.before.before, (λ e. omega (arith, c.if-from-one_if-gt-PLANE_CELLS.false)), c.requires.2, omega arith)
+
+pub add_line_if-b-requires : goal.add_line_if-b-requires
+add_line_if-b-requires c =
+    (low c.before.before.before.before.before.before.before, (λ e. omega (arith, c.if-from-one_if-gt-PLANE_CELLS.false, ends c.before.before.before.before, output_one c.before.before.before.before.before.before.before)), omega (arith, c.requires.2, c.add_line_if-a.auto.plane), omega arith)
+
+pub put_cell-requires : goal.put_cell-requires
+put_cell-requires c =
+    (low c.before.before.before.before.before.before.before.before.before.before.before, room c.before.before.before.before, omega (arith, c.requires.2, c.add_line_if-a.auto.plane, c.add_line_if-b.auto.plane), omega (arith, c.requires.0))
+
+pub overflow_add-result : goal.overflow_add-result
+overflow_add-result c = omega (arith, room c.before.before.before.before.before.before.before.before.before)
+
+pub returns : goal.returns
+returns c =
+    (
+      cells_added c.args.o c.args.x c.args.region c.args.row c.args.s c.args.plane.now c.is_at-is_annotation.result (told c.before.before.before.before.before.before.before.before.before.before.before.before.before.before.before.before) (low c.before.before.before.before.before.before.before.before.before.before.before.before.before.before.before.before)
+          (omega (arith, c.if-from-one_if-gt-PLANE_CELLS.left, output_one c.before.before.before.before.before.before.before.before.before.before.before.before.before.before.before.before, annotation_one c.before.before.before.before.before.before.before.before.before.before.before.before.before.before.before.before)) c.add_line_if-a.result c.add_line_if-b.result _ _ _
+          c.add_line_if-a.ensures.cells c.add_line_if-b.ensures.cells c.put_cell.ensures.cells c.column_if-output.ensures c.column_if-annotation.ensures,
+      (
+        record { few = omega (arith, room c.before.before.before.before.before.before.before.before.before); low = λ z. low c.before.before.before.before.before.before.before.before.before.before.before.before.before.before.before.before },
+        kept_then c.args.plane.now _ _ c.args.row c.add_line_if-a.ensures.before (kept_then _ _ _ c.args.row c.add_line_if-b.ensures.before c.put_cell.ensures.before),
+      ),
+    )

@@ -1,0 +1,35 @@
+-- `plane_cells::add_line_if` meets its contract.
+use mathlib.Core.Path.{◌∙◌}
+use Rattle.cells.specs.Plane.{cells_in}
+use Rattle.cells.proofs.PlaneLaws.{kept_refl}
+use Rattle.plane_cells.proofs.CellLaws.{line_there, no_line}
+use native.Mathlib.Omega.{arith}
+use Rattle.plane_cells.proofs.add_line_if.Goals as goal
+
+pub put_cell-requires : goal.put_cell-requires
+put_cell-requires c =
+    (c.requires.0, c.requires.1 c.if-t.true, c.requires.2, c.requires.3)
+
+pub overflow_add-result : goal.overflow_add-result
+overflow_add-result c =
+    omega (arith, c.requires.1 c.if-t.true)
+
+pub returns-then-t : goal.returns-then-t
+returns-then-t c =
+    (
+      rw c.if-t.true,
+      (
+        c.put_cell.ensures.cells ∙ line_there c.args.t c.args.c (cells_in c.args.plane.now c.args.row c.args.i) c.if-t.true,
+        c.put_cell.ensures.before,
+      ),
+    )
+
+pub returns : goal.returns
+returns c =
+    (
+      rw c.if-t.false (omega arith),
+      (
+        no_line c.args.t c.args.c (cells_in c.args.plane.now c.args.row c.args.i) c.if-t.false,
+        kept_refl c.args.plane.now c.args.row,
+      ),
+    )

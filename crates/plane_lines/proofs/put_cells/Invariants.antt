@@ -1,0 +1,9 @@
+use Prim.Native.Nat.{◌-◌}
+use Rattle.plane_lines.proofs.PlaneLaws.{Celling}
+use Rattle.plane_lines.proofs.put_cells.Given as goal
+
+abbrev pub invariant-loop-i : goal.invariant-loop-i
+invariant-loop-i l = Celling l.initial.out l.initial.n l.plane l.row l.count l.n l.i i
+
+abbrev pub decreases-loop-i : goal.decreases-loop-i
+decreases-loop-i l = l.count - i

@@ -1,0 +1,16 @@
+-- `plane_lines::put_upright` meets its contract.
+use mathlib.Core.Path.{refl}
+use Rattle.print.proofs.WrittenLaws.{written_then, written_within}
+use Rattle.plane_lines.specs.Planes.{upright_lines}
+use native.Mathlib.Omega.{arith}
+use Rattle.plane_lines.proofs.put_upright.Goals as goal
+use Rattle.plane_lines.proofs.put_upright.Tie as tie
+
+-- LEFT slice-aggregate-put-three : tie.Need-slice-aggregate-put-three
+-- slice-aggregate-put-three c = refl
+
+pub returns : goal.returns
+unfolding upright_lines
+returns c =
+    let w = c.put_three-a.ensures in
+    written_within (written_then w c.put_plane.ensures (omega (arith, w.short))) (omega arith)

@@ -1,0 +1,14 @@
+-- `print::put_refusal` meets its contract.
+use mathlib.Core.Path.{ap, refl}
+use Rattle.print.specs.Lines.{refused_line}
+use Rattle.print.proofs.WrittenLaws.{written_as, written_within}
+use native.Mathlib.Omega.{arith}
+use Rattle.print.proofs.put_refusal.Goals as goal
+use Rattle.print.proofs.put_refusal.Tie as tie
+
+-- LEFT slice-aggregate-put-three : tie.Need-slice-aggregate-put-three
+-- slice-aggregate-put-three c = refl
+
+pub returns : goal.returns
+returns c =
+    written_within (written_as c.put_three.ensures (ap refused_line c.refusal_numbers-x.ensures)) (omega arith)

@@ -1,0 +1,54 @@
+-- `regions::add_region` meets its contract.
+use mathlib.Core.Path.{◌≡◌, sym, ap, ◌∙◌}
+use mathlib.Core.List.{[], ◌∷◌, ◌++◌}
+use Prim.Native.Nat.{◌<◌, ◌/◌, ◌%◌}
+use lib.ListN.{length}
+use Rattle.lists.specs.Answer.{ok, ◌>>=◌}
+use Rattle.lists.specs.Picture.{canvas}
+use Rattle.lists.proofs.PlaceLaws.{columns}
+use Rattle.model.specs.Refusals.{Reading}
+use Rattle.model.specs.declared.Rect.{Rect}
+use Rattle.walks.specs.Frame.{frame_of, framed_in}
+use Rattle.walks.specs.Kinds.{thin}
+use Rattle.walks.specs.declared.Framed.{Framed}
+use Rattle.rects.specs.Rects.{rects_of}
+use Rattle.regions.specs.Regions.{add_region}
+use Rattle.regions.proofs.RegionLaws.{place_of, frame_small}
+use Rattle.regions.proofs.add_region.Goals as goal
+use Rattle.regions.proofs.add_region.Tie as tie
+
+some : (t : tie.Start) → 0 < t.args.w
+some t = columns t.args.w t.args.h t.args.i t.requires.1
+
+-- the frame that was found goes behind the regions so far
+added : (g : tie.After-recognize_region) {F : Framed} → g.recognize-region.result ≡ F
+    → ◌>>=◌ (framed_in F) (λ r. ok (rects_of g.before.before.before.args.rects.now g.before.before.before.args.n ++ (r ∷ [])))
+    ≡ add_region (frame_of thin (canvas g.before.before.before.args.w g.before.before.before.args.h g.before.before.before.args.layer.now) g.before.before.before.args.w g.before.before.before.args.h)
+    g.before.before.before.args.w g.before.before.before.args.i (rects_of g.before.before.before.args.rects.now g.before.before.before.args.n)
+added g e =
+    ap (λ (m : Reading Rect). ◌>>=◌ m (λ r. ok (rects_of g.args.rects.now g.args.n ++ (r ∷ [])))) (ap framed_in (sym e) ∙ g.recognize_region.ensures)
+
+pub nonzero_rem-i : goal.nonzero_rem-i
+nonzero_rem-i c = some c.before.before.before
+
+pub nonzero_div-i : goal.nonzero_div-i
+nonzero_div-i c = some c.before.before.before
+
+pub recognize_region-requires : goal.recognize_region-requires
+recognize_region-requires c =
+    place_of c.args.w c.args.h c.args.i (length c.args.layer.now) c.requires.0 c.requires.1
+
+pub put_rect-requires : goal.put_rect-requires
+put_rect-requires c =
+    let a = c.args in (
+      c.requires.2,
+      frame_small thin (canvas a.w a.h a.layer.now) a.w a.h (a.i % a.w) (a.i / a.w) (length a.layer.now) _ c.requires.0
+          (place_of a.w a.h a.i (length a.layer.now) c.requires.0 c.requires.1) (sym c.recognize_region.ensures ∙ ap framed_in c.in-Closed.is),
+    )
+
+pub returns-in-Closed : goal.returns-in-Closed
+returns-in-Closed c =
+    ap ok c.put_rect.ensures ∙ added c.before.before.before.before.before.before.before.before c.in-Closed.is
+
+pub returns-in-NotFramed : goal.returns-in-NotFramed
+returns-in-NotFramed c = added c.before.before.before.before c.in-NotFramed.is

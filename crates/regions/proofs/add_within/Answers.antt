@@ -1,0 +1,27 @@
+-- `regions::add_within` meets its contract.
+use mathlib.Core.Path.{sym, ◌∙◌}
+use Rattle.lists.specs.Picture.{canvas}
+use Rattle.walks.specs.Frame.{frame_of}
+use Rattle.walks.specs.Kinds.{thin}
+use Rattle.regions.specs.Regions.{Finder}
+use Rattle.regions.proofs.RegionLaws.{has_room, no_room}
+use native.Mathlib.Omega.{arith}
+use Rattle.regions.proofs.add_within.Goals as goal
+use Rattle.regions.proofs.add_within.Tie as tie
+
+abbrev found : tie.Start → Finder
+found s = let a = s.args in frame_of thin (canvas a.w a.h a.layer.now) a.w a.h
+
+pub returns-then-n-ge-REGIONS : goal.returns-then-n-ge-REGIONS
+returns-then-n-ge-REGIONS c =
+    let a = c.args in
+    sym (no_room (found c.before.before.before.before) a.w a.i a.rects.now a.n c.if-n-ge-REGIONS.true)
+
+pub add_region-requires : goal.add_region-requires
+add_region-requires c =
+    (c.requires.0, c.requires.1, omega (arith, c.requires.2, c.if-n-ge-REGIONS.false))
+
+pub returns : goal.returns
+returns c =
+    let a = c.args in
+    c.add_region.ensures ∙ sym (has_room (found c.before.before.before.before.before.before.before.before) a.w a.i a.rects.now a.n c.if-n-ge-REGIONS.false)

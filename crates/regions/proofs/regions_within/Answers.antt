@@ -1,0 +1,33 @@
+-- `regions::regions_within` meets its contract.
+use Prim.Native.Nat.{◌-◌}
+use Rattle.regions.proofs.RegionLaws.{adding_start, adding_more, adding_out, adding_end}
+use native.Mathlib.Omega.{arith}
+use Rattle.regions.proofs.regions_within.Goals as goal
+
+pub next_corner-i-requires : goal.next_corner-i-requires
+next_corner-i-requires c = (omega arith, c.requires.0.size)
+
+pub loop-i-init : goal.loop-i-init
+loop-i-init c = adding_start _ _ _ _ _ _ c.next_corner-i.ensures
+
+pub add_within-requires : goal.add_within-requires
+add_within-requires c =
+    (c.requires.0, c.loop-i-test.true, omega (arith, c.requires.1, c.loop-i.invariant.long))
+
+pub returns-in-NotCounted : goal.returns-in-NotCounted
+returns-in-NotCounted c =
+    adding_out c.loop-i.invariant c.loop-i-test.true _ _ c.add_within.ensures _ c.in-NotCounted.is
+
+pub next_corner-i-requires-in-loop-i : goal.next_corner-i-requires-in-loop-i
+next_corner-i-requires-in-loop-i c =
+    (omega (arith, c.loop-i-test.true), c.requires.0.size)
+
+pub loop-i-smaller : goal.loop-i-smaller
+loop-i-smaller c = omega (arith, c.loop-i-test.true, c.next_corner-i-in-loop-i.ensures.from)
+
+pub loop-i-preserved : goal.loop-i-preserved
+loop-i-preserved c =
+    adding_more c.loop-i.invariant c.loop-i-test.true _ _ c.add_within.ensures _ c.in-Regions.is c.add_within.auto.rects _ c.next_corner-i-in-loop-i.ensures
+
+pub returns : goal.returns
+returns c = adding_end c.loop-i.invariant c.loop-i-test.false

@@ -1,0 +1,32 @@
+-- `replay::answer_lines` meets its contract.
+use mathlib.Core.Path.{refl}
+use Prim.Native.Nat.{◌-◌}
+use Rattle.replay.proofs.Replaying.{answering_start, answering_more, answering_stop, answering_last, answering_full, answering_end}
+use native.Mathlib.Omega.{arith}
+use Rattle.replay.proofs.answer_lines.Goals as goal
+
+pub loop-at-init : goal.loop-at-init
+loop-at-init c = answering_start c.requires.0 c.requires.1
+
+pub returns-then-end-input : goal.returns-then-end-input
+returns-then-end-input c =
+    answering_last c.loop-at.invariant c.find-end.ensures c.if-end-input.true
+
+pub returns-then-out-n-lt-LINE_BYTES : goal.returns-then-out-n-lt-LINE_BYTES
+returns-then-out-n-lt-LINE_BYTES c =
+    answering_full c.loop-at.invariant (omega (arith, c.loop-at.invariant.fits))
+
+pub answer_line-requires : goal.answer_line-requires
+answer_line-requires c = (omega (arith, c.loop-at.invariant.fits), c.loop-at.invariant.texts, c.loop-at.invariant.scratches)
+
+pub loop-at-preserved : goal.loop-at-preserved
+loop-at-preserved c = answering_more c.loop-at.invariant _ _ _ c.answer_line.ensures c.find-end.ensures (omega (arith, c.find-end.ensures.high)) refl c.in-Upto.is
+    c.answer_line.auto.text c.answer_line.auto.scratch c.answer_line.auto.out (omega (arith, c.loop-at.invariant.fits))
+
+pub returns-in-NoText : goal.returns-in-NoText
+returns-in-NoText c =
+    answering_stop c.loop-at.invariant _ _ _ c.answer_line.ensures c.find-end.ensures refl c.in-NoText.is
+
+pub returns : goal.returns
+returns c =
+    answering_end c.loop-at.invariant c.loop-at-test.false

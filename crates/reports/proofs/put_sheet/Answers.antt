@@ -1,0 +1,41 @@
+-- `reports::put_sheet` meets its contract.
+use mathlib.Core.Path.{refl}
+use Rattle.policies.specs.DrawnPolicy.{walked_policy}
+use Rattle.print.proofs.WrittenLaws.{written_as}
+use Rattle.builder.specs.SheetEnd.{sheet_sizes}
+use Rattle.outcome_lines.specs.PolicyLines.{record_bytes}
+use Rattle.outcome_lines.proofs.OutcomeLaws.{Reported, drawn_printable, end_reported}
+use native.Mathlib.Omega.{arith}
+use borrow.Author.Rules.{rules}
+use Rattle.reports.proofs.put_sheet.Goals as goal
+use Rattle.reports.proofs.put_sheet.Tie as tie
+
+told : (c : tie.After-read_sheet-drawn) → Reported (walked_policy c.args.s.now) record_bytes c.read_sheet-drawn.result c.read_sheet-drawn.new.out
+told c = end_reported sheet_sizes (walked_policy c.args.s.now) _ _ _ _ _ record_bytes (drawn_printable c.args.s.now) (search rules) (search rules) c.read_sheet-drawn.ensures
+
+pub slice_bounds-read_sheet-end : goal.slice_bounds-read_sheet-end
+slice_bounds-read_sheet-end c = refl
+
+pub slice_bounds-read_sheet-end-2 : goal.slice_bounds-read_sheet-end-2
+slice_bounds-read_sheet-end-2 c = refl
+
+pub slice_bounds-read_sheet-end-3 : goal.slice_bounds-read_sheet-end-3
+slice_bounds-read_sheet-end-3 c = refl
+
+pub slice_bounds-read_sheet-end-4 : goal.slice_bounds-read_sheet-end-4
+slice_bounds-read_sheet-end-4 c = refl
+
+pub slice_bounds-read_sheet-end-5 : goal.slice_bounds-read_sheet-end-5
+slice_bounds-read_sheet-end-5 c = refl
+
+pub slice_bounds-read_sheet-end-6 : goal.slice_bounds-read_sheet-end-6
+slice_bounds-read_sheet-end-6 c = refl
+
+pub slice_bounds-read_sheet-end-7 : goal.slice_bounds-read_sheet-end-7
+slice_bounds-read_sheet-end-7 c = refl
+
+pub put_outcome-requires : goal.put_outcome-requires
+put_outcome-requires c = (omega (arith, c.requires), omega (arith, c.read_sheet-drawn.auto.out), (told c.before.before.before.before.before.before.before.before.before.before).sound)
+
+pub returns : goal.returns
+returns c = written_as c.put_outcome.ensures (told c.before.before.before.before.before.before.before.before.before.before.before.before.before).lines

@@ -1,0 +1,32 @@
+-- `scan::scan` meets its contract.
+use mathlib.Core.Path.{◌∙◌, refl}
+use Prim.Native.Nat.{◌≤◌}
+use native.Mathlib.Omega.{arith}
+use Rattle.model.specs.Limits.{canvas_rows}
+use Rattle.scan.proofs.Answers.{scan_rows, scan_columns, scan_room, scan_canvas}
+use Rattle.scan.proofs.scan.Goals as goal
+
+pub slice_bounds-measure-end : goal.slice_bounds-measure-end
+slice_bounds-measure-end c = refl
+
+pub returns-then-rows-gt-CANVAS_ROWS : goal.returns-then-rows-gt-CANVAS_ROWS
+returns-then-rows-gt-CANVAS_ROWS c =
+    let a = c.args in
+    scan_rows c.sheet_start-start.ensures.start c.measure-m.ensures.measured a.text.now a.body.now (omega arith)
+
+pub returns-then-columns-gt-CANVAS_COLUMNS : goal.returns-then-columns-gt-CANVAS_COLUMNS
+returns-then-columns-gt-CANVAS_COLUMNS c =
+    let a = c.args in
+    scan_columns c.sheet_start-start.ensures.start c.measure-m.ensures.measured a.text.now a.body.now (omega arith)
+
+pub write_rows-requires : goal.write_rows-requires
+write_rows-requires c =
+    let a = c.args in
+    let h : c.measure-m.result.rows ≤ canvas_rows = omega arith in
+    scan_room c.sheet_start-start.ensures.start c.measure-m.ensures.measured a.text.now a.body.now h (omega arith) (c.measure-m.ensures.kept h) (omega (arith, c.measure-m.auto.lines)) c.requires.1 c.requires.2
+
+pub returns : goal.returns
+returns c =
+    let a = c.args in
+    let h : c.measure-m.result.rows ≤ canvas_rows = omega arith in
+    scan_canvas c.sheet_start-start.ensures.start c.measure-m.ensures.measured a.text.now a.body.now h (omega arith) (c.measure-m.ensures.kept h) _ (c.sheet_start-start.ensures.valid.same ∙ c.measure-m.ensures.valid) c.write_rows.ensures

@@ -1,0 +1,57 @@
+-- `scan::write_rows` meets its contract.
+use mathlib.Core.Path.{◌≡◌, refl, ◌∙◌}
+use mathlib.Core.List.{List, ◌∷◌}
+use Prim.Native.Nat.{ℕ, ◌+◌, ◌-◌}
+use native.Mathlib.Omega.{arith}
+use lib.ListN.{drop}
+use Rattle.lists.proofs.RunLaws.{length_run, drop-build, drop_build_end}
+use Rattle.sheet_rows.specs.Found.{row_in, rows_in}
+use Rattle.scan.specs.Rows.{blank}
+use Rattle.scan.proofs.TextLayer.{blank-length}
+use Rattle.scan.proofs.Writing.{text-layer, writing_start, writing_more, writing_end, writing_room}
+use Rattle.scan.proofs.write_rows.Goals as goal
+use Rattle.scan.proofs.write_rows.Tie as tie
+
+abbrev all : tie.At-loop-r goal.the-invariant-loop-r goal.the-decreases-loop-r → List (List ℕ)
+all t = rows_in t.args.s.now t.args.lines.now t.args.rows
+
+pub loop-r-init : goal.loop-r-init
+loop-r-init c =
+    let n = length_run (row_in c.args.s.now c.args.lines.now) 0 c.args.rows in (
+      writing_start (λ t. t) (λ t. refl) _ _ _ c.requires.2 (rw n c.requires.3),
+      writing_start blank blank-length _ _ _ c.requires.2 (rw n c.requires.4),
+    )
+
+-- the row of a turn, and those behind it
+row : (c : tie.In-loop-r goal.the-invariant-loop-r goal.the-decreases-loop-r)
+    → drop c.before.loop.r (all c.before) ≡ row_in (start c.before).args.s.now (start c.before).args.lines.now c.before.loop.r ∷ drop (c.before.loop.r + 1) (all c.before)
+row c = let a = c.args in drop-build a.rows (row_in a.s.now a.lines.now) c.loop-r.r c.loop-r-test.true
+
+pub put_row-requires : goal.put_row-requires
+put_row-requires c =
+    let i = c.loop-r.invariant in
+    let x = writing_room i.0 (row c.before.before.before.before.before) in
+    let y = writing_room i.1 (row c.before.before.before.before.before) in
+    let n = c.requires.0 c.loop-r.r c.loop-r-test.true in
+    (n, omega arith, x.1, y.1)
+
+pub loop-r-preserved : goal.loop-r-preserved
+loop-r-preserved c =
+    let i = c.loop-r.invariant in
+    let k = c.put_row.auto.1.1.1.1 in (
+      writing_more i.0 (row c.before.before.before.before.before.before.before.before.before.before) c.put_row.ensures.text k.0,
+      writing_more i.1 (row c.before.before.before.before.before.before.before.before.before.before) c.put_row.ensures.body k.1.0,
+    )
+
+pub shape_of-text : goal.shape_of-text
+shape_of-text c = c.loop-r.invariant.0.long
+
+pub shape_of-body : goal.shape_of-body
+shape_of-body c = c.loop-r.invariant.1.long
+
+pub returns : goal.returns
+returns c =
+    let i = c.loop-r.invariant in
+    let a = c.args in
+    let e = drop_build_end a.rows (row_in a.s.now a.lines.now) c.loop-r.r c.loop-r-test.false in
+    (writing_end i.0 e ∙ text-layer _ _ _, writing_end i.1 e)

@@ -1,0 +1,13 @@
+use mathlib.Core.Path.{◌≡◌}
+use Prim.Native.Nat.{◌+◌, ◌-◌}
+use lib.ListN.{length}
+use Rattle.search.proofs.Shifting.{left}
+use Rattle.search.proofs.Building.{Building}
+use Rattle.search.proofs.periods_of.Given as goal
+
+abbrev pub invariant-loop-reach : goal.invariant-loop-reach
+invariant-loop-reach l = (length l.t ≡ length l.initial.t) × Building l.p l.t l.e l.reach l.n l.top
+
+-- as in `find`, and one for each byte that no entry reaches yet
+abbrev pub decreases-loop-reach : goal.decreases-loop-reach
+decreases-loop-reach l = left l.p l.p l.e (l.reach - l.e) + (length l.p - l.top)

@@ -1,0 +1,15 @@
+-- `slot_runs::put_rewritten` meets its contract.
+use mathlib.Core.Path.{refl, ap}
+use mathlib.Core.Option.{some}
+use Prim.Native.Nat.{ℕ, ◌+◌}
+use native.Mathlib.Omega.{arith}
+use Rattle.values.specs.Values.{values_of}
+use Rattle.slot_runs.specs.Spelt.{part_of}
+use Rattle.slot_runs.proofs.SpeltLaws.{spelt_one}
+use Rattle.slot_runs.proofs.put_rewritten.Goals as goal
+
+pub returns : goal.returns
+returns c =
+    λ bytes i e.
+    spelt_one (some (values_of (part_of bytes c.args.p)).allowed) c.put_slot.ensures refl refl
+    (ap (λ (n : ℕ). c.args.from.bytes + n) e) i.inside (omega (arith, e, c.requires.1))

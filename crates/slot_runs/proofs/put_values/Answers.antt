@@ -1,0 +1,66 @@
+-- `slot_runs::put_values` meets its contract.
+use mathlib.Core.Path.{refl}
+use mathlib.Core.List.{[], ◌∷◌}
+use mathlib.Core.Option.{some}
+use Prim.Native.Nat.{◌+◌, ◌≤◌}
+use native.Mathlib.Omega.{arith}
+use Rattle.model.specs.Limits.{text_bytes}
+use Rattle.values.specs.Values.{values_of}
+use Rattle.slot_runs.specs.Spelt.{part_of, Spelt}
+use Rattle.slot_runs.proofs.ValueTexts.{MarkedIn, values-none, values-plain, marked_in, default_in, values-marked}
+use Rattle.slot_runs.proofs.SpeltLaws.{spelt_then, spelt_as, room_next, room_less}
+use Rattle.slot_runs.proofs.put_values.Goals as goal
+use Rattle.slot_runs.proofs.put_values.Tie as tie
+
+-- the default is measured
+marked : (c : tie.In-Marked)
+    → MarkedIn (start c).args.bytes.now (start c).args.p c.before.n.given.0.0 c.before.n.given.0.1.0 c.before.n.given.0.1.1.0
+marked c =
+    marked_in c.args.bytes.now c.args.p c.requires.1 _ _ _ (rw c.n-1.given.1 at c.measure_values.ensures)
+
+-- the rewritten values are written
+rewritten : (c : tie.After-put_rewritten-r) → Spelt c.args.bytes.now c.args.slots.now c.put_rewritten-r.new.slots c.args.from c.put_rewritten-r.result
+    (some (values_of (part_of c.args.bytes.now c.args.p)).allowed ∷ [])
+rewritten c = c.put_rewritten-r.ensures c.args.bytes.now c.requires.1 (marked c.before.before).size
+
+-- where the default lies
+placed : (c : tie.In-Marked) → let a = c.args in
+    (a.p.offset + c.n-1.given.0.1.1.0 ≤ text_bytes) × (c.n-1.given.0.1.0 ≤ c.n-1.given.0.1.1.0)
+placed c = let m = marked c in let i = c.requires.1 in (omega (arith, m.ends, i.inside, i.few), m.ordered)
+
+pub returns-then-p-eq0 : goal.returns-then-p-eq0
+returns-then-p-eq0 c = spelt_as (c.put_no_values.ensures _) (values-none _ c.args.p c.if-p-eq0.true)
+
+pub put_absent-requires : goal.put_absent-requires
+put_absent-requires c =
+    room_next c.requires.0 (c.put_part-a.ensures c.args.bytes.now c.requires.1) refl (omega arith) c.put_part-a.auto.slots
+
+pub put_rewritten-r-requires : goal.put_rewritten-r-requires
+put_rewritten-r-requires c = (room_less c.requires.0 (omega arith), (marked c.before.before).few)
+
+pub overflow_add-start : goal.overflow_add-start
+overflow_add-start c = omega (arith, placed c.before.before.before.before.before.before)
+
+pub overflow_cast-start-in-Marked : goal.overflow_cast-start-in-Marked
+overflow_cast-start-in-Marked c = omega (arith, placed c.before.before.before.before.before.before)
+
+pub overflow_sub-b : goal.overflow_sub-b
+overflow_sub-b c = (placed c.before.before.before.before.before.before).1
+
+pub overflow_cast-b : goal.overflow_cast-b
+overflow_cast-b c = omega (arith, placed c.before.before.before.before.before.before)
+
+pub put_part-requires : goal.put_part-requires
+put_part-requires c = room_next c.requires.0 (rewritten c.before.before.before.before) refl (omega arith) c.put_rewritten-r.auto.slots
+
+pub returns-in-Plain : goal.returns-in-Plain
+returns-in-Plain c =
+    let b = c.args.bytes.now in
+    let v = values-plain b c.args.p c.requires.1 (omega (arith, c.if-p-eq0.false)) (rw c.in-Plain.is at c.measure_values.ensures) in
+    spelt_as (spelt_then (c.put_part-a.ensures b c.requires.1) (c.put_absent.ensures b)) v
+
+pub returns-in-Marked : goal.returns-in-Marked
+returns-in-Marked c =
+    let b = c.args.bytes.now in
+    let v = values-marked b c.args.p c.requires.1 (omega (arith, c.if-p-eq0.false)) (marked c.before.before.before.before.before.before.before.before.before) in
+    spelt_as (spelt_then (rewritten c.before.before.before.before.before.before.before) (c.put_part.ensures b (default_in b c.args.p c.requires.1 (marked c.before.before.before.before.before.before.before.before.before)))) v

@@ -1,0 +1,67 @@
+-- `step::add_frame` meets its contract.
+use mathlib.Core.Path.{ap, ◌∙◌}
+use Prim.Native.Nat.{◌+◌, ◌*◌, ◌<◌}
+use native.Mathlib.Omega.{arith}
+use lib.ListN.{length}
+use Rattle.lists.specs.Answer.{refused}
+use Rattle.lists.specs.Picture.{canvas}
+use Rattle.lists.proofs.PictureLaws.{place-fits}
+use Rattle.cells.proofs.PlaneLaws.{kept_refl}
+use Rattle.regions.specs.Regions.{Finder}
+use Rattle.walks.specs.Frame.{frame_of}
+use Rattle.walks.specs.Kinds.{grid}
+use Rattle.plane_cells.specs.Made.{row_of}
+use Rattle.plane_cells.specs.Row.{Row}
+use Rattle.step.proofs.RowLaws.{with_region, no_region_lem, number_at}
+use Rattle.step.proofs.add_frame.Goals as goal
+use Rattle.step.proofs.add_frame.Tie as tie
+
+abbrev find : tie.Start → Finder
+find t = frame_of grid (canvas t.args.w t.args.h t.args.layer.now) t.args.w t.args.h
+
+abbrev so_far : tie.Start → Row
+so_far t = row_of t.args.s t.args.plane.now t.args.row
+
+inside : (t : tie.Start) → t.args.y * t.args.w + t.args.x < length t.args.found.now
+inside t = place-fits t.args.h t.args.w t.args.x t.args.y (length t.args.found.now) t.requires.1 t.requires.2 t.requires.0.numbers
+
+pub overflow_mul-k : goal.overflow_mul-k
+overflow_mul-k c = omega (arith, inside c.before.before.before.before, c.well_formed)
+
+pub overflow_add-k : goal.overflow_add-k
+overflow_add-k c = omega (arith, inside c.before.before.before.before, c.well_formed)
+
+pub offset_bounds-found-y : goal.offset_bounds-found-y
+offset_bounds-found-y c = omega (arith, inside c.before.before.before.before, c.well_formed)
+
+pub bounds-found-y : goal.bounds-found-y
+bounds-found-y c = inside c.before.before.before.before.before
+
+pub overflow_cast-k : goal.overflow_cast-k
+overflow_cast-k c = let a = c.args in omega (arith, c.shared_slice_known-3-1.given (a.y * a.w + a.x))
+
+pub add_cells-requires : goal.add_cells-requires
+add_cells-requires c =
+    (omega (arith, c.if-k-count.true, c.requires.0.few), c.requires.3, c.requires.4)
+
+pub returns-then-k-count : goal.returns-then-k-count
+returns-then-k-count c =
+    let a = c.args in (
+      λ rs n m.
+          c.add_cells.ensures.made
+          ∙ with_region a.o (find c.before.before.before.before.before.before.before.before.before.before) rs a.row a.y a.x (so_far c.before.before.before.before.before.before.before.before.before.before) _ (number_at (find c.before.before.before.before.before.before.before.before.before.before) rs a.w a.h a.layer.now a.found.now a.x a.y c.requires.1 c.requires.2 c.requires.5 m) (omega (arith, n, c.if-k-count.true)),
+      c.add_cells.ensures.1,
+    )
+
+pub why_none-requires : goal.why_none-requires
+why_none-requires c =
+    record { column = c.requires.1; row = c.requires.2; size = c.requires.0.layer.size }
+
+pub returns : goal.returns
+returns c =
+    let a = c.args in (
+      λ rs n m.
+          ap refused c.why_none.ensures
+          ∙ no_region_lem a.o (find c.before.before.before.before.before.before.before) rs a.row a.y a.x (so_far c.before.before.before.before.before.before.before) _ (number_at (find c.before.before.before.before.before.before.before) rs a.w a.h a.layer.now a.found.now a.x a.y c.requires.1 c.requires.2 c.requires.5 m) (omega (arith, n, c.if-k-count.false)),
+      (tt, kept_refl a.plane.now a.row),
+    )

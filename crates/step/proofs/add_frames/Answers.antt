@@ -1,0 +1,58 @@
+-- `step::add_frames` meets its contract.
+use mathlib.Core.Path.{◌≡◌, subst}
+use native.Mathlib.Omega.{arith}
+use Rattle.lists.specs.Picture.{Picture, canvas}
+use Rattle.cells.proofs.PlaneLaws.{kept-fits}
+use Rattle.regions.specs.Regions.{Finder}
+use Rattle.walks.specs.Frame.{frame_of}
+use Rattle.walks.specs.Kinds.{grid}
+use Rattle.plane_cells.specs.Made.{RowFit, RowFits}
+use Rattle.plane_cells.specs.declared.RowMade.{RowMade}
+use Rattle.plane_cells.specs.declared.RowMade.TheVariants.{Cells}
+use Rattle.plane_cells.specs.declared.RowSofar.{RowSofar}
+use Rattle.step.proofs.FramesLaws.{frames_out, no_frames, frames_added}
+use Rattle.step.proofs.add_frames.Goals as goal
+use Rattle.step.proofs.add_frames.Tie as tie
+
+abbrev picture : tie.Start → Picture
+picture t = canvas t.args.w t.args.h t.args.layer.now
+
+abbrev find : tie.Start → Finder
+find t = frame_of grid (picture t) t.args.w t.args.h
+
+-- the row's cells fit
+fits : (m : tie.After-make_row) {t : RowSofar} → m.make-row.result ≡ Cells t → RowFit t (start m).args.s.rows
+fits m z = subst (λ (r : RowMade). RowFits r m.args.s.rows) z m.make_row.ensures.fits
+
+pub make_row-requires : goal.make_row-requires
+make_row-requires c =
+    (c.requires.0, c.requires.1, c.requires.2.plane.room)
+
+pub returns-then-n-eq0 : goal.returns-then-n-eq0
+returns-then-n-eq0 c =
+    let a = c.args in
+    let k = c.make_row.ensures.before in (
+      λ rs n q. no_frames a.o (find c.before.before.before.before.before.before.before.before.before.before.before.before) rs (picture c.before.before.before.before.before.before.before.before.before.before.before.before) a.w a.y a.s a.plane.now _ _ (c.make_row.ensures.made rs n q) _ c.in-Cells.is c.requires.2 k c.if-n-eq0.true,
+      record { plane = kept-fits a.plane.now _ a.s.rows k c.make_row.auto.plane c.requires.2.plane; width = c.requires.2.width },
+    )
+
+pub end_row-requires : goal.end_row-requires
+end_row-requires c =
+    let a = c.args in
+    let f = fits c.before.before.before.before.before.before.before.before c.in-Cells.is in (
+      kept-fits a.plane.now _ a.s.rows c.make_row.ensures.before c.make_row.auto.plane c.requires.2.plane,
+      f.low (omega (arith, c.if-n-eq0.false)),
+      f.few,
+    )
+
+pub returns-else-n-eq0 : goal.returns-else-n-eq0
+returns-else-n-eq0 c =
+    let a = c.args in (
+      λ rs n q. frames_added a.o (find c.before.before.before.before.before.before.before.before.before.before.before.before.before.before.before.before) rs (picture c.before.before.before.before.before.before.before.before.before.before.before.before.before.before.before.before) a.w a.y a.s a.plane.now _ _ (c.make_row.ensures.made rs n q) _ c.in-Cells.is c.requires.2 c.make_row.ensures.before c.if-n-eq0.false _ c.end_row.ensures.rows,
+      record { plane = c.end_row.ensures.fits; width = (fits c.before.before.before.before.before.before.before.before.before.before.before c.in-Cells.is).few },
+    )
+
+pub returns-in-NoCells : goal.returns-in-NoCells
+returns-in-NoCells c =
+    let a = c.args in
+    (λ rs n q. frames_out a.o (find c.before.before.before.before.before.before.before.before.before.before.before) rs (picture c.before.before.before.before.before.before.before.before.before.before.before) a.w a.y a.s a.plane.now _ _ (c.make_row.ensures.made rs n q) _ c.in-NoCells.is, tt)

@@ -1,0 +1,22 @@
+-- `step::add_grid_rows` meets its contract.
+use Prim.Native.Nat.{◌-◌}
+use Rattle.step.proofs.RowsLaws.{growing_start, growing_more, growing_out, growing_end}
+use Rattle.step.proofs.add_grid_rows.Goals as goal
+
+pub loop-y-init : goal.loop-y-init
+loop-y-init c = growing_start _ _ _ _ _ _ _ c.requires.1
+
+pub add_grid_row-requires : goal.add_grid_row-requires
+add_grid_row-requires c =
+    (c.requires.0, c.loop-y-test.true, c.loop-y.invariant.fits)
+
+pub returns-in-NoRows : goal.returns-in-NoRows
+returns-in-NoRows c =
+    (growing_out c.loop-y.invariant c.loop-y-test.true _ _ c.add_grid_row.ensures.made _ c.in-NoRows.is, tt)
+
+pub loop-y-preserved : goal.loop-y-preserved
+loop-y-preserved c =
+    growing_more c.loop-y.invariant c.loop-y-test.true _ _ c.add_grid_row.ensures.made c.add_grid_row.ensures.fits c.add_grid_row.auto.plane _ c.in-Sofar.is
+
+pub returns : goal.returns
+returns c = let q = c.loop-y.invariant in (growing_end q c.loop-y-test.false, q.fits.plane)

@@ -1,0 +1,12 @@
+-- `text_lines::line_head` meets its contract.
+use mathlib.Core.Path.{ap, ◌∙◌}
+use Rattle.text_lines.specs.LineScan.{head_of}
+use Rattle.text_lines.proofs.LineReading.{head_of_lem, valid_of}
+use Rattle.text_lines.proofs.SeenLaws.{head_first}
+use Rattle.text_lines.proofs.line_head.Goals as goal
+
+pub returns : goal.returns
+returns c =
+    let k = c.skip_white-from.ensures in
+    let e = c.line_end-e.ensures in
+    (head_of_lem k.0 k.1 k.2 e.next (c.first_of-first.ensures ∙ ap head_of c.next.ensures ∙ head_first _), valid_of k.3 e.valid)

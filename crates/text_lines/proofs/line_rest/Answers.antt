@@ -1,0 +1,58 @@
+-- `text_lines::line_rest` meets its contract: the last code point is known by its place.
+use mathlib.Core.Path.{refl, sym, ◌∙◌}
+use Prim.Native.Nat.{◌-◌}
+use native.Mathlib.Omega.{arith}
+use lib.ListN.{drop}
+use Rattle.utf8.specs.Utf8.{decode}
+use Rattle.text_lines.specs.declared.Seen.TheVariants.{Text, White, LineFeed, Nothing}
+use Rattle.white_space.proofs.WhiteLaws.{dark_no_feed}
+use Rattle.text_lines.proofs.LineReading.{scan_start, scan_fits, scan_white, scan_dark, scan_feed, scan_stop, scan_end, found_in}
+use Rattle.text_lines.proofs.SeenLaws.{Told, told, feed_byte, none_left}
+use Rattle.text_lines.proofs.line_rest.Goals as goal
+use Rattle.text_lines.proofs.line_rest.Tie as tie
+
+pub loop-p-init : goal.loop-p-init
+loop-p-init c = scan_start _ _ c.requires
+
+text : (c : tie.In-Text goal.the-invariant-loop-p goal.the-decreases-loop-p) → Told (decode (drop c.loop-p.p c.args.s.now)) (Text c.e-1.given.0.0)
+text c = told _ _ (sym c.e-1.given.1 ∙ c.seen_at-e.ensures)
+
+pub overflow_add-p : goal.overflow_add-p
+overflow_add-p c = omega (arith, scan_fits c.loop-p.invariant (text c.before).0)
+
+pub overflow_add-k : goal.overflow_add-k
+overflow_add-k c = omega (arith, scan_fits c.loop-p.invariant (text c.before).0)
+
+pub loop-p-smaller-in-Text : goal.loop-p-smaller-in-Text
+loop-p-smaller-in-Text c = omega (arith, scan_fits c.loop-p.invariant (text c.before).0)
+
+pub loop-p-preserved-in-Text : goal.loop-p-preserved-in-Text
+loop-p-preserved-in-Text c = scan_dark c.loop-p.invariant (text c.before).0 (dark_no_feed (text c.before).1) (text c.before).1
+
+white : (c : tie.In-White goal.the-invariant-loop-p goal.the-decreases-loop-p) → Told (decode (drop c.loop-p.p c.args.s.now)) (White c.e-in-White-1.given.0.0)
+white c = told _ _ (sym c.e-in-White-1.given.1 ∙ c.seen_at-e.ensures)
+
+pub overflow_add-p-in-White : goal.overflow_add-p-in-White
+overflow_add-p-in-White c = omega (arith, scan_fits c.loop-p.invariant (white c.before).0)
+
+pub overflow_add-k-in-White : goal.overflow_add-k-in-White
+overflow_add-k-in-White c = omega (arith, scan_fits c.loop-p.invariant (white c.before).0)
+
+pub loop-p-smaller : goal.loop-p-smaller
+loop-p-smaller c = omega (arith, scan_fits c.loop-p.invariant (white c.before).0)
+
+pub loop-p-preserved : goal.loop-p-preserved
+loop-p-preserved c = scan_white c.loop-p.invariant (white c.before).0 (white c.before).1.0 (white c.before).1.1
+
+pub returns-in-LineFeed : goal.returns-in-LineFeed
+returns-in-LineFeed c =
+    let feed = told _ LineFeed (sym c.in-LineFeed.is ∙ c.seen_at-e.ensures) in
+    found_in _ c.rest_of.ensures (scan_feed c.loop-p.invariant (feed_byte _ feed) refl)
+
+pub returns-in-Nothing : goal.returns-in-Nothing
+returns-in-Nothing c =
+    let none = told _ Nothing (sym c.in-Nothing.is ∙ c.seen_at-e.ensures) in
+    found_in _ c.rest_of-in-Nothing.ensures (scan_stop c.loop-p.invariant (none_left _ none))
+
+pub returns : goal.returns
+returns c = found_in _ c.rest_of-2.ensures (scan_end c.loop-p.invariant c.loop-p-test.false)

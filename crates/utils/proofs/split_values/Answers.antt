@@ -1,0 +1,11 @@
+-- `utils::split_values` meets its contract.
+use mathlib.Core.Path.{sym, ◌∙◌}
+use Rattle.utils.proofs.Answers.{answer_invalid, answer_valid}
+use Rattle.utils.proofs.split_values.Goals as goal
+
+pub returns-in-Invalid : goal.returns-in-Invalid
+returns-in-Invalid c = answer_invalid _ _ (sym c.validate.ensures ∙ c.in-Invalid.is)
+
+pub returns-in-Valid : goal.returns-in-Valid
+returns-in-Valid c =
+    answer_valid c.split_text.result _ _ _ (sym c.validate.ensures ∙ c.in-Valid.is) c.split_text.ensures

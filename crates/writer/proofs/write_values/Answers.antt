@@ -1,0 +1,25 @@
+-- `writer::write_values` meets its contract.
+use Rattle.writer.proofs.WritingLaws.{values_ask, values-left}
+use mathlib.Core.Path.{refl}
+use native.Mathlib.Omega.{arith}
+use Rattle.writer.proofs.write_values.Goals as goal
+
+pub part_of-text-requires : goal.part_of-text-requires
+part_of-text-requires c = let held = c.requires.parts_held.0 in (omega (arith, held.numbers), held.inside c.args.slot (omega arith))
+
+pub put_values-end-requires : goal.put_values-end-requires
+put_values-end-requires c =
+    let pre = c.requires in
+    (values_ask _ _ _ pre.0.1 _ c.part_of-text.ensures _ _ pre.1).1
+
+pub put_slot-requires : goal.put_slot-requires
+put_slot-requires c =
+    let pre = c.requires in
+    let ask = values_ask _ _ _ pre.0.1 _ c.part_of-text.ensures _ _ pre.1 in
+    let wrote = c.put_values-end in
+    (omega (arith, ask, wrote.auto), omega (arith, ask), omega (arith, ask, wrote.ensures.0))
+
+pub returns : goal.returns
+returns c =
+    let pre = c.requires in
+    values-left _ _ _ pre.0.1 _ c.part_of-text.ensures _ _ pre.1 _ _ _ _ refl c.put_values-end.ensures c.put_slot.ensures
