@@ -1,6 +1,6 @@
 -- Laws of the letters of hit policies: reading a policy's letters gives it, and which texts are no policy.
 use mathlib.Core.Path.{◌≡◌, refl}
-use mathlib.Core.Bool.{and_false}
+use mathlib.Core.Bool.{and-false}
 use mathlib.Core.List.{List, [], ◌∷◌}
 use mathlib.Core.Option.{none, some}
 use Prim.Native.Nat.{ℕ}
@@ -43,14 +43,14 @@ unfolding by_letters same_text
 no_length [] f g = refl
 no_length (a ∷ []) f g = absurd (f refl)
 no_length (a ∷ b ∷ []) f g = absurd (g refl)
-no_length (a ∷ b ∷ c ∷ s) f g = simp and_false
+no_length (a ∷ b ∷ c ∷ s) f g = simp and-false
 
 -- two bytes, the first of which is no C
 pub no_collect : (s : List ℕ) → length s ≡ 2 → (get_or s 0 0 ≡ 0x43 → ⊥) → none ≡ policy_of s
 unfolding by_letters same_text
 no_collect [] e f = absurd (omega arith)
 no_collect (a ∷ []) e f = absurd (omega arith)
-no_collect (a ∷ b ∷ []) e f = simp (and_false, ne_eqb a 0x43 f)
+no_collect (a ∷ b ∷ []) e f = simp (and-false, ne_eqb a 0x43 f)
 no_collect (a ∷ b ∷ c ∷ s) e f = absurd (omega arith)
 
 -- a text of one byte, and one of two

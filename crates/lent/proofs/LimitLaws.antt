@@ -1,6 +1,6 @@
 -- The test of the limits: its ways, and what it tells.
 use mathlib.Core.Path.{◌≡◌, sym, ◌∙◌}
-use mathlib.Core.Bool.{Bool, true, false, ◌&&◌, and_true, and_false}
+use mathlib.Core.Bool.{Bool, true, false, ◌&&◌, and_true, and-false}
 use mathlib.Core.List.{List}
 use Prim.Native.Nat.{ℕ, ◌≤◌, ◌<◌}
 use borrow.Author.Tests.{le-leb, lt-leb, leb-true}
@@ -25,10 +25,10 @@ module _ (rows offsets bytes : List ℕ) where
   rows_many h = rw (lt-leb (length rows) plane_rows h)
 
   pub regions_many : region_count < length offsets → false ≡ within_limits rows offsets bytes
-  regions_many h = rw (lt-leb (length offsets) region_count h) (sym (and_false rows_fit_lem))
+  regions_many h = rw (lt-leb (length offsets) region_count h) (sym (and-false rows_fit_lem))
 
   pub bytes_many : length offsets ≤ region_count → text_bytes < length bytes → false ≡ within_limits rows offsets bytes
-  bytes_many k h = rw (le-leb (length offsets) region_count k, lt-leb (length bytes) text_bytes h) (sym (and_false rows_fit_lem))
+  bytes_many k h = rw (le-leb (length offsets) region_count k, lt-leb (length bytes) text_bytes h) (sym (and-false rows_fit_lem))
 
   pub rows_decide : length rows ≤ plane_rows → length offsets ≤ region_count → length bytes ≤ text_bytes
       → (r : Bool) → r ≡ all_at (short rows) (length rows) → r ≡ within_limits rows offsets bytes

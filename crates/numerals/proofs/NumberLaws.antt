@@ -1,6 +1,6 @@
 -- The steps of reading a rule number.
 use mathlib.Core.Path.{◌≡◌, refl, sym, ap, ◌∙◌}
-use mathlib.Core.Bool.{Bool, true, false, and_false}
+use mathlib.Core.Bool.{Bool, true, false, and-false}
 use mathlib.Core.List.{List, [], ◌∷◌}
 use mathlib.Core.Option.{none, some}
 use Prim.Native.Nat.{ℕ, ◌+◌, ◌-◌, ◌*◌, ◌^◌, ◌<◌, ◌≤◌}
@@ -24,7 +24,7 @@ module _ (s : List ℕ) (a i : ℕ) (h : i < length s) where
 
   digit_high : 0x39 < get_or s i 0 → digits a (drop i s) ≡ none
   unfolding digits
-  digit_high u = rw (at_cons s i 0 h, lt-leb (get_or s i 0) 0x39 u, and_false (leb 0x30 (get_or s i 0)))
+  digit_high u = rw (at_cons s i 0 h, lt-leb (get_or s i 0) 0x39 u, and-false (leb 0x30 (get_or s i 0)))
 
 -- a value past 64 bits stays there
 digits_big : (a : ℕ) (s : List ℕ) → 2 ^ 64 ≤ a → fits64 (digits a s) ≡ none

@@ -1,6 +1,6 @@
 -- The answers of `scan`, from where the sheet starts and what it measures, and what they tell a caller.
 use mathlib.Core.Path.{◌≡◌, sym, ap, ◌∙◌}
-use mathlib.Core.Bool.{true, false, and_false}
+use mathlib.Core.Bool.{true, false, and-false}
 use mathlib.Core.List.{List, map}
 use Prim.Native.Nat.{ℕ, ◌*◌, ◌≤◌, ◌<◌}
 use native.Mathlib.Nat.{mul-le-mul}
@@ -60,7 +60,7 @@ module _ {s : List ℕ} {from at rows columns end : ℕ} (i : StartAt s from at)
     scan_rows h = large (rw (← height, lt-leb rows canvas_rows h))
 
     pub scan_columns : canvas_columns < columns → Answered s from d b (NotScanned (CanvasTooLarge rows columns)) d b
-    scan_columns h = large (rw (← width, lt-leb columns canvas_columns h) (and_false (leb (length (rows_at s from)) canvas_rows)))
+    scan_columns h = large (rw (← width, lt-leb columns canvas_columns h) (and-false (leb (length (rows_at s from)) canvas_rows)))
 
     module _ (h : rows ≤ canvas_rows) (k : columns ≤ canvas_columns) {lines : List ℕ} (q : Kept s at lines rows) where
       pub scan_room : 2 * canvas_rows ≤ length lines → canvas_size ≤ length d → canvas_size ≤ length b

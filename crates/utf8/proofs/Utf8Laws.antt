@@ -1,6 +1,6 @@
 -- Laws of UTF-8: rows of table 3-7, reading at a place of the bytes, and the bytes of a code point by its size.
 use mathlib.Core.Path.{◌≡◌, refl, ap, ◌∙◌}
-use mathlib.Core.Bool.{Bool, true, false, and_false}
+use mathlib.Core.Bool.{Bool, true, false, and-false}
 use mathlib.Core.List.{List, [], ◌∷◌}
 use Prim.Native.Nat.{ℕ, zero, suc, ◌+◌, ◌-◌, ◌*◌, ◌/◌, ◌%◌, ◌≤◌, ◌<◌}
 use native.Mathlib.Numerals.{sub-one}
@@ -26,7 +26,7 @@ module _ (lo hi b : ℕ) where
   below p = rw (lt-leb lo b p)
 
   pub above : hi < b → in_range (lo – hi) b ≡ false
-  above p = rw (lt-leb b hi p) (and_false (leb lo b))
+  above p = rw (lt-leb b hi p) (and-false (leb lo b))
 
 module _ (lo hi : ℕ) (rs : List Range) (code n : ℕ) (s : List ℕ) (at : ℕ) where
   pub more_end : length s ≤ at → more ((lo – hi) ∷ rs) code n (drop at s) ≡ IllFormed
