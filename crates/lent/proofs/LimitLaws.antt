@@ -1,6 +1,6 @@
 -- The test of the limits: its ways, and what it tells.
 use mathlib.Core.Path.{◌≡◌, sym, ◌∙◌}
-use mathlib.Core.Bool.{Bool, true, false, ◌&&◌, and_true, and-false}
+use mathlib.Core.Bool.{Bool, true, false, ◌&&◌, and-true, and-false}
 use mathlib.Core.List.{List}
 use Prim.Native.Nat.{ℕ, ◌≤◌, ◌<◌}
 use borrow.Author.Tests.{le-leb, lt-leb, leb-true}
@@ -33,7 +33,7 @@ module _ (rows offsets bytes : List ℕ) where
   pub rows_decide : length rows ≤ plane_rows → length offsets ≤ region_count → length bytes ≤ text_bytes
       → (r : Bool) → r ≡ all_at (short rows) (length rows) → r ≡ within_limits rows offsets bytes
   rows_decide h k l r e =
-      rw (le-leb (length rows) plane_rows h, le-leb (length offsets) region_count k, le-leb (length bytes) text_bytes l) (e ∙ sym (and_true (all_at (short rows) (length rows))))
+      rw (le-leb (length rows) plane_rows h, le-leb (length offsets) region_count k, le-leb (length bytes) text_bytes l) (e ∙ sym (and-true (all_at (short rows) (length rows))))
 
   module _ (e : within_limits rows offsets bytes ≡ true) where
     of_rows : (leb (length rows) plane_rows ≡ true) × (all_at (short rows) (length rows) ≡ true)

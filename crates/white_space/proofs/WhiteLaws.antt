@@ -29,6 +29,7 @@ out-among ((lo – hi) ∷ rs) c f = go (in_range (lo – hi) c) refl (out-among
 
 pub in_among : (rs : List Range) (c : ℕ) → In rs c → among rs c ≡ true
 unfolding among
+in_among [] c x' = elim x' [ ]
 in_among ((lo – hi) ∷ rs) c (inl w) = rw (in_range_lem lo hi c w.0 w.1)
 in_among ((lo – hi) ∷ rs) c (inr w) = go (in_range (lo – hi) c) (in_among rs c w)
   where
@@ -45,6 +46,7 @@ apart : (lo hi a b c : ℕ) → (ltb hi a || ltb b lo) ≡ true → a ≤ c → 
 apart lo hi a b c e h k p q = by_flag (ltb hi a) (λ y. omega (arith, ltb-true hi a y)) (λ z. let w = rw z at e in omega (arith, ltb-true b lo w))
 
 in_none : (rs : List Range) (a b c : ℕ) → clear rs a b ≡ true → a ≤ c → c ≤ b → In rs c → ⊥
+in_none [] a b c e h k x4 = elim x4 [ ]
 in_none ((lo – hi) ∷ rs) a b c e h k (inl w) = apart lo hi a b c (both (ltb hi a || ltb b lo) (clear rs a b) e).0 h k w.0 w.1
 in_none ((lo – hi) ∷ rs) a b c e h k (inr w) = in_none rs a b c (both (ltb hi a || ltb b lo) (clear rs a b) e).1 h k w
 

@@ -5,25 +5,25 @@ use Rattle.body_layer.proofs.SizeLaws.{row_fits}
 use Rattle.body_layer.proofs.BodyLaws.{body-canvas, shaded_canvas}
 use Rattle.thin_layer.proofs.Turning.{turning_start, turning_more, turning_end}
 use Rattle.body_layer.proofs.make_body.Goals as goal
-use Rattle.body_layer.proofs.make_body.Tie as tie
+use Rattle.body_layer.proofs.make_body.Goals.{In-loop-y}
 
 pub loop-y-init : goal.loop-y-init
 loop-y-init c = (turning_start _ _ _, turning_start _ _ _)
 
-row : (c : tie.In-loop-y goal.the-invariant-loop-y goal.the-decreases-loop-y) (n : ℕ) → c.args.rows * c.args.width ≤ n
+row : (c : In-loop-y) (n : ℕ) → c.args.rows * c.args.width ≤ n
     → c.loop-y.y * c.args.width + c.args.r.left + (c.args.r.right - c.args.r.left) ≤ n
 row c n f = row_fits c.requires.1 c.loop-y.y n c.loop-y-test.true f
 
 pub overflow_mul-y : goal.overflow_mul-y
-overflow_mul-y c = omega (arith, row c.before.before.before _ c.requires.0.text, c.well_formed)
+overflow_mul-y c = omega (arith, row (goal.at.overflow_mul-y c).In-loop-y _ c.requires.0.text, c.well_formed)
 
 pub overflow_add-y : goal.overflow_add-y
-overflow_add-y c = omega (arith, row c.before.before.before _ c.requires.0.text, c.well_formed)
+overflow_add-y c = omega (arith, row (goal.at.overflow_add-y c).In-loop-y _ c.requires.0.text, c.well_formed)
 
 pub body_row-requires : goal.body_row-requires
 body_row-requires c =
     let l = c.requires.0 in
-    let row_in = row c.before.before.before in
+    let row_in = row (goal.at.body_row-requires c).In-loop-y in
     omega (arith, row_in _ l.text, row_in _ l.thin, row_in _ l.body, row_in _ l.grid, c.loop-y.invariant)
 
 pub loop-y-preserved : goal.loop-y-preserved

@@ -1,16 +1,11 @@
 -- `builder::read_sheet` meets its contract.
-use mathlib.Core.List.{List, [], ◌∷◌}
+use mathlib.Core.List.{[], ◌∷◌}
 use mathlib.Core.Path.{sym, ap, ◌∙◌, refl}
-use Prim.Native.Nat.{ℕ}
 use Rattle.policies.specs.DrawnPolicy.{walked_policy}
 use Rattle.room.specs.Room.{room_in}
 use Rattle.builder.specs.SheetEnd.{sheet_sizes}
 use Rattle.ends.proofs.EndLaws.{end_short}
 use Rattle.builder.proofs.read_sheet.Goals as goal
-use Rattle.builder.proofs.read_sheet.Tie as tie
-
-abbrev works : tie.Start → List (List ℕ)
-works s = s.args.text.now ∷ s.args.thins.now ∷ s.args.bodies.now ∷ s.args.grid.now ∷ s.args.spans.now ∷ s.args.bytes.now ∷ []
 
 pub slice_bounds-work_slices-end : goal.slice_bounds-work_slices-end
 slice_bounds-work_slices-end c = refl
@@ -48,4 +43,4 @@ returns-in-Enough c = c.sheet_cleared.ensures
 
 pub returns-in-Short : goal.returns-in-Short
 returns-in-Short c =
-    end_short sheet_sizes (walked_policy c.args.s.now) (works c.before.before.before.before.before.before.before.before.before.before.before.before.before.before.before) c.args.out.now _ (ap room_in (sym c.in-Short.is) ∙ c.work_slices.ensures)
+    end_short sheet_sizes (walked_policy c.args.s.now) (c.args.text.now ∷ c.args.thins.now ∷ c.args.bodies.now ∷ c.args.grid.now ∷ c.args.spans.now ∷ c.args.bytes.now ∷ []) c.args.out.now _ (ap room_in (sym c.in-Short.is) ∙ c.work_slices.ensures)

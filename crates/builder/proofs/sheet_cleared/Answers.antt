@@ -1,21 +1,14 @@
 -- `builder::sheet_cleared` meets its contract.
-use mathlib.Core.List.{List, [], ◌∷◌}
+use mathlib.Core.List.{[], ◌∷◌}
 use mathlib.Core.Path.{◌∙◌}
-use Prim.Native.Nat.{ℕ}
 use Rattle.policies.specs.DrawnPolicy.{walked_policy}
 use Rattle.builder.specs.SheetEnd.{sheet_sizes}
 use Rattle.ends.proofs.EndLaws.{Cleared, none, one, cleared_all, zeros-same, end_cleared}
 use Rattle.builder.proofs.RoomLaws.{sheet-room}
 use Rattle.builder.proofs.sheet_cleared.Goals as goal
-use Rattle.builder.proofs.sheet_cleared.Tie as tie
+use Rattle.builder.proofs.sheet_cleared.Goals.{After-slice_known-20-1}
 
-abbrev before : tie.Start → List (List ℕ)
-before s = s.args.text.now ∷ s.args.thins.now ∷ s.args.bodies.now ∷ s.args.grid.now ∷ s.args.spans.now ∷ s.args.bytes.now ∷ []
-
-abbrev after : tie.After-slice_known-20-1 → List (List ℕ)
-after c = c.clear_four.new.a ∷ c.clear_four.new.b ∷ c.clear_four.new.c ∷ c.clear_four.new.d ∷ c.clear_u32.new.s ∷ c.clear_u8.new.s ∷ []
-
-gone : (c : tie.After-slice_known-20-1) → Cleared (after c) (before (start c))
+gone : (c : After-slice_known-20-1) → Cleared (c.clear_four.new.a ∷ c.clear_four.new.b ∷ c.clear_four.new.c ∷ c.clear_four.new.d ∷ c.clear_u32.new.s ∷ c.clear_u8.new.s ∷ []) (c.args.text.now ∷ c.args.thins.now ∷ c.args.bodies.now ∷ c.args.grid.now ∷ c.args.spans.now ∷ c.args.bytes.now ∷ [])
 gone c =
     let r = c.sheet_record-r in
     let s = c.args in
@@ -50,4 +43,4 @@ shape_of-out c = c.sheet_record-r.auto.out
 pub returns : goal.returns
 returns c =
     let r = c.sheet_record-r in
-    end_cleared sheet_sizes (walked_policy c.args.s.now) (before c.before.before.before.before.before.before.before.before.before.before.before.before.before.before.before.before.before.before.before.before.before.before.before.before.before.before.before.before.before.before.before.before.before.before.before.before.before.before.before.before.before.before.before.before.before.before.before.before.before.before.before.before) (after c.before) c.args.out.now r.last.1.1.1.1.1.1.1.0 r.result c.requires r.ensures.0 r.ensures.1 (cleared_all (gone c.before))
+    end_cleared sheet_sizes (walked_policy c.args.s.now) (c.args.text.now ∷ c.args.thins.now ∷ c.args.bodies.now ∷ c.args.grid.now ∷ c.args.spans.now ∷ c.args.bytes.now ∷ []) (c.clear_four.new.a ∷ c.clear_four.new.b ∷ c.clear_four.new.c ∷ c.clear_four.new.d ∷ c.clear_u32.new.s ∷ c.clear_u8.new.s ∷ []) c.args.out.now r.last.1.1.1.1.1.1.1.0 r.result c.requires r.ensures.0 r.ensures.1 (cleared_all (gone c))

@@ -1,7 +1,5 @@
 -- `canvas::draw_sheet` meets its contract.
-use mathlib.Core.List.{List}
 use mathlib.Core.Path.{◌≡◌, sym, ap, ◌∙◌, subst}
-use Prim.Native.Nat.{ℕ}
 use Rattle.outline.specs.Answers.{outline_in}
 use Rattle.sheet_rows.specs.Rows.{rows_at}
 use Rattle.scan.specs.Canvas.{scanned_in, size_of, Ended, ValidIn}
@@ -15,63 +13,41 @@ use Rattle.utf8.specs.declared.Checked.TheVariants.{Valid}
 use Rattle.canvas.proofs.DrawingLaws.{ill_formed, well_formed_lem, scan_refused, refused-behind, canvas-fits, columns_fit, rows_fit, outline_refused, outlined, body_in, shown}
 use native.Mathlib.Omega.{arith}
 use Rattle.canvas.proofs.draw_sheet.Goals as goal
-use Rattle.canvas.proofs.draw_sheet.Tie as tie
+use Rattle.canvas.proofs.draw_sheet.Goals.{After-recognize_outline, After-validate_lines, In-Canvas, In-Table}
 
--- the bytes, the sheet's rows, and what the scan told of them
-abbrev bytes : tie.In-Canvas → List ℕ
-bytes c = c.args.s.now
+size : (c : In-Canvas) → scanned_in (Canvas (c.in-Canvas.rows) (c.in-Canvas.columns) (c.in-Canvas.end) (c.in-Canvas.valid)) ≡ size_of (rows_at ((c.args.s.now)) 0)
+size c = ap scanned_in (sym c.in-Canvas.is) ∙ c.scan.ensures.answer
 
-abbrev sheet : tie.In-Canvas → List (List ℕ)
-sheet c = rows_at (bytes c) 0
-
-abbrev rows : tie.In-Canvas → ℕ
-rows c = c.rows-1.given.0.0
-
-abbrev columns : tie.In-Canvas → ℕ
-columns c = c.rows-1.given.0.1.0
-
-abbrev end : tie.In-Canvas → ℕ
-end c = c.rows-1.given.0.1.1.0
-
-abbrev valid : tie.In-Canvas → ℕ
-valid c = c.rows-1.given.0.1.1.1.0
-
-abbrev answer : tie.In-Canvas → Scanned
-answer c = Canvas (rows c) (columns c) (end c) (valid c)
-
-size : (c : tie.In-Canvas) → scanned_in (answer c) ≡ size_of (sheet c)
-size c = ap scanned_in (sym c.rows-1.given.1) ∙ c.scan.ensures.answer
-
-ended : (c : tie.In-Canvas) → Ended (answer c) (bytes c) 0
-ended c = subst (λ (r : Scanned). Ended r (bytes c) 0) c.rows-1.given.1 c.scan.ensures.end
+ended : (c : In-Canvas) → Ended (Canvas (c.in-Canvas.rows) (c.in-Canvas.columns) (c.in-Canvas.end) (c.in-Canvas.valid)) (c.args.s.now) 0
+ended c = subst (λ (r : Scanned). Ended r (c.args.s.now) 0) c.in-Canvas.is c.scan.ensures.end
 
 -- the check from there on tells of all bytes
-whole : (c : tie.After-validate_lines) → checked (bytes c.before) ≡ c.validate_lines.result
-whole c = subst (λ (r : Scanned). ValidIn r (bytes c.before) 0) c.rows-1.given.1 c.scan.ensures.valid ∙ sym c.validate_lines.ensures
+whole : (c : After-validate_lines) → checked (c.args.s.now) ≡ c.validate_lines.result
+whole c = subst (λ (r : Scanned). ValidIn r (c.args.s.now) 0) c.in-Canvas.is c.scan.ensures.valid ∙ sym c.validate_lines.ensures
 
-formed : (c : tie.After-recognize_outline) → checked (bytes (canvased c)) ≡ Valid
-formed c = whole c.before.before.before ∙ c.enum_told-1.given.1
+formed : (c : After-recognize_outline) → checked (c.args.s.now) ≡ Valid
+formed c = whole (UP.After-validate_lines c) ∙ c.in-Valid.is
 
-outline_told : (c : tie.In-Table) → ok c.o-1.given.0.0 ≡ outline_of (canvas (columns c.before.before.before.before.before.before.before) (rows c.before.before.before.before.before.before.before) c.scan.new.text) (columns c.before.before.before.before.before.before.before) (rows c.before.before.before.before.before.before.before)
-outline_told c = ap outline_in (sym c.o-1.given.1) ∙ c.recognize_outline.ensures
+outline_told : (c : In-Table) → ok c.in-Table.o ≡ outline_of (canvas c.in-Canvas.columns c.in-Canvas.rows c.scan.new.text) c.in-Canvas.columns c.in-Canvas.rows
+outline_told c = ap outline_in (sym c.in-Table.is) ∙ c.recognize_outline.ensures
 
 pub recognize_outline-requires : goal.recognize_outline-requires
 recognize_outline-requires c =
-    omega (arith, canvas-fits (sheet c.before.before.before.before) (rows c.before.before.before.before) (columns c.before.before.before.before) (end c.before.before.before.before) (valid c.before.before.before.before) (size c.before.before.before.before), c.requires.text)
+    omega (arith, canvas-fits (rows_at ((c.args.s.now)) 0) c.in-Canvas.rows c.in-Canvas.columns c.in-Canvas.end c.in-Canvas.valid (size (goal.at.recognize_outline-requires c).In-Canvas), c.requires.text)
 
 pub make_layers-requires : goal.make_layers-requires
 make_layers-requires c =
     let p = c.requires in
-    let n = canvas-fits (sheet c.before.before.before.before.before.before.before.before.before.before.before.before) (rows c.before.before.before.before.before.before.before.before.before.before.before.before) (columns c.before.before.before.before.before.before.before.before.before.before.before.before) (end c.before.before.before.before.before.before.before.before.before.before.before.before) (valid c.before.before.before.before.before.before.before.before.before.before.before.before) (size c.before.before.before.before.before.before.before.before.before.before.before.before) in (
+    let n = canvas-fits (rows_at ((c.args.s.now)) 0) c.in-Canvas.rows c.in-Canvas.columns c.in-Canvas.end c.in-Canvas.valid (size (goal.at.make_layers-requires c).In-Canvas) in (
       record {
-        narrow = columns_fit (sheet c.before.before.before.before.before.before.before.before.before.before.before.before) (rows c.before.before.before.before.before.before.before.before.before.before.before.before) (columns c.before.before.before.before.before.before.before.before.before.before.before.before) (end c.before.before.before.before.before.before.before.before.before.before.before.before) (valid c.before.before.before.before.before.before.before.before.before.before.before.before) (size c.before.before.before.before.before.before.before.before.before.before.before.before);
-        low = rows_fit (sheet c.before.before.before.before.before.before.before.before.before.before.before.before) (rows c.before.before.before.before.before.before.before.before.before.before.before.before) (columns c.before.before.before.before.before.before.before.before.before.before.before.before) (end c.before.before.before.before.before.before.before.before.before.before.before.before) (valid c.before.before.before.before.before.before.before.before.before.before.before.before) (size c.before.before.before.before.before.before.before.before.before.before.before.before);
+        narrow = columns_fit (rows_at ((c.args.s.now)) 0) c.in-Canvas.rows c.in-Canvas.columns c.in-Canvas.end c.in-Canvas.valid (size (goal.at.make_layers-requires c).In-Canvas);
+        low = rows_fit (rows_at ((c.args.s.now)) 0) c.in-Canvas.rows c.in-Canvas.columns c.in-Canvas.end c.in-Canvas.valid (size (goal.at.make_layers-requires c).In-Canvas);
         text = omega (arith, p.text);
         thin = omega (arith, p.thin);
         body = omega (arith, p.body);
         grid = omega (arith, p.grid);
       },
-      body_in (sheet c.before.before.before.before.before.before.before.before.before.before.before.before) (rows c.before.before.before.before.before.before.before.before.before.before.before.before) (columns c.before.before.before.before.before.before.before.before.before.before.before.before) (end c.before.before.before.before.before.before.before.before.before.before.before.before) (valid c.before.before.before.before.before.before.before.before.before.before.before.before) (size c.before.before.before.before.before.before.before.before.before.before.before.before) c.args.text.now _ c.scan.ensures.layer _ (outline_told c.before.before.before.before.before),
+      body_in (rows_at ((c.args.s.now)) 0) c.in-Canvas.rows c.in-Canvas.columns c.in-Canvas.end c.in-Canvas.valid (size (goal.at.make_layers-requires c).In-Canvas) c.args.text.now _ c.scan.ensures.layer _ (outline_told (goal.at.make_layers-requires c).In-Table),
     )
 
 pub shape_of-text-in-Table : goal.shape_of-text-in-Table
@@ -81,20 +57,20 @@ shape_of-text-in-Table c =
 pub returns-in-Table : goal.returns-in-Table
 returns-in-Table c =
     let s = c.scan.ensures.1.1.1 in (
-      well_formed_lem _ _ (formed c.before.before.before.before.before.before.before.before.before.before.before.before.before.before.before) (outlined (sheet c.before.before.before.before.before.before.before.before.before.before.before.before.before.before.before.before.before.before.before) (rows c.before.before.before.before.before.before.before.before.before.before.before.before.before.before.before.before.before.before.before) (columns c.before.before.before.before.before.before.before.before.before.before.before.before.before.before.before.before.before.before.before) (end c.before.before.before.before.before.before.before.before.before.before.before.before.before.before.before.before.before.before.before) (valid c.before.before.before.before.before.before.before.before.before.before.before.before.before.before.before.before.before.before.before) (size c.before.before.before.before.before.before.before.before.before.before.before.before.before.before.before.before.before.before.before) c.args.text.now _ s.0 _ (outline_told c.before.before.before.before.before.before.before.before.before.before.before.before)),
+      well_formed_lem _ _ (formed (goal.at.returns-in-Table c).After-recognize_outline) (outlined (rows_at ((c.args.s.now)) 0) c.in-Canvas.rows c.in-Canvas.columns c.in-Canvas.end c.in-Canvas.valid (size (goal.at.returns-in-Table c).In-Canvas) c.args.text.now _ s.0 _ (outline_told (goal.at.returns-in-Table c).In-Table)),
       (
-        shown (sheet c.before.before.before.before.before.before.before.before.before.before.before.before.before.before.before.before.before.before.before) (rows c.before.before.before.before.before.before.before.before.before.before.before.before.before.before.before.before.before.before.before) (columns c.before.before.before.before.before.before.before.before.before.before.before.before.before.before.before.before.before.before.before) (end c.before.before.before.before.before.before.before.before.before.before.before.before.before.before.before.before.before.before.before) (valid c.before.before.before.before.before.before.before.before.before.before.before.before.before.before.before.before.before.before.before) (size c.before.before.before.before.before.before.before.before.before.before.before.before.before.before.before.before.before.before.before) c.args.text.now _ s.0 _ c.args.bodies.now _ _ _ _ s.1 c.make_layers.ensures.thin c.make_layers.ensures.body c.make_layers.ensures.grid,
-        ended c.before.before.before.before.before.before.before.before.before.before.before.before.before.before.before.before.before.before.before,
+        shown (rows_at ((c.args.s.now)) 0) c.in-Canvas.rows c.in-Canvas.columns c.in-Canvas.end c.in-Canvas.valid (size (goal.at.returns-in-Table c).In-Canvas) c.args.text.now _ s.0 _ c.args.bodies.now _ _ _ _ s.1 c.make_layers.ensures.thin c.make_layers.ensures.body c.make_layers.ensures.grid,
+        ended (goal.at.returns-in-Table c).In-Canvas,
       ),
     )
 
 pub returns-in-NotOutlined : goal.returns-in-NotOutlined
 returns-in-NotOutlined c =
-    (well_formed_lem _ _ (formed c.before.before.before.before) (outline_refused (sheet c.before.before.before.before.before.before.before.before) (rows c.before.before.before.before.before.before.before.before) (columns c.before.before.before.before.before.before.before.before) (end c.before.before.before.before.before.before.before.before) (valid c.before.before.before.before.before.before.before.before) (size c.before.before.before.before.before.before.before.before) c.args.text.now _ c.scan.ensures.layer _ (ap outline_in (sym c.in-NotOutlined.is) ∙ c.recognize_outline.ensures)), (tt, tt))
+    (well_formed_lem _ _ (formed (goal.at.returns-in-NotOutlined c).After-recognize_outline) (outline_refused (rows_at ((c.args.s.now)) 0) c.in-Canvas.rows c.in-Canvas.columns c.in-Canvas.end c.in-Canvas.valid (size (goal.at.returns-in-NotOutlined c).In-Canvas) c.args.text.now _ c.scan.ensures.layer _ (ap outline_in (sym c.in-NotOutlined.is) ∙ c.recognize_outline.ensures)), (tt, tt))
 
 pub returns-in-Invalid : goal.returns-in-Invalid
 returns-in-Invalid c =
-    (ill_formed _ _ (whole c.before.before.before.before ∙ c.in-Invalid.is), (tt, tt))
+    (ill_formed _ _ (whole (goal.at.returns-in-Invalid c).After-validate_lines ∙ c.in-Invalid.is), (tt, tt))
 
 pub returns-in-NotScanned : goal.returns-in-NotScanned
 returns-in-NotScanned c =

@@ -4,4 +4,4 @@ use Rattle.cells.proofs.end_row.Goals as goal
 
 pub returns : goal.returns
 returns c =
-    (ended-rows c.args.plane.now c.args.row c.args.n c.requires.0 c.requires.1 c.requires.2, ended-fits c.args.plane.now c.args.row c.args.n c.requires.0 c.requires.1 c.requires.2)
+    record { rows = ended-rows c.args.plane.now c.args.row c.args.n c.requires.0 c.requires.1 c.requires.2; fits = ended-fits c.args.plane.now c.args.row c.args.n c.requires.0 c.requires.1 c.requires.2 }

@@ -1,12 +1,12 @@
 -- `grid_layer::carry_line` meets its contract. The invariant: the first k characters of the line are carried.
 use mathlib.Core.Path.{sym, ◌∙◌}
-use Prim.Native.Nat.{ℕ, ◌+◌, ◌-◌, ◌*◌}
+use Prim.Native.Nat.{◌+◌, ◌-◌, ◌*◌}
 use native.Mathlib.Omega.{arith}
 use Rattle.grid_layer.proofs.CarryLaws.{line_carried_lem, line_stays}
 use Rattle.body_layer.proofs.SizeLaws.{Inside}
 use Rattle.thin_layer.proofs.Turning.{turning_start, turning_more, turning_end}
 use Rattle.grid_layer.proofs.carry_line.Goals as goal
-use Rattle.grid_layer.proofs.carry_line.Tie as tie
+use Rattle.grid_layer.proofs.carry_line.Goals.{In-loop-k}
 
 pub has_code-requires : goal.has_code-requires
 has_code-requires c = λ k h. (c.requires.by_index k h).1.1.1
@@ -14,24 +14,21 @@ has_code-requires c = λ k h. (c.requires.by_index k h).1.1.1
 pub loop-k-init : goal.loop-k-init
 loop-k-init c = turning_start _ _ _
 
-abbrev place : tie.In-loop-k goal.the-invariant-loop-k goal.the-decreases-loop-k → ℕ
-place c = c.args.base + c.loop-k.k * c.args.stride
-
 -- the place lies in each layer
-inside : (c : tie.In-loop-k goal.the-invariant-loop-k goal.the-decreases-loop-k)
-    → Inside (place c) (start c).args.text.now (start c).args.thins.now (start c).args.bodies.now (start c).args.grid.now
+inside : (c : In-loop-k)
+    → Inside (place c) c.args.text.now c.args.thins.now c.args.bodies.now c.args.grid.now
 inside c = c.requires.by_index c.loop-k.k c.loop-k-test.true
 
 pub overflow_mul-k : goal.overflow_mul-k
-overflow_mul-k c = omega (arith, inside c.before.before)
+overflow_mul-k c = omega (arith, inside (goal.at.overflow_mul-k c).In-loop-k)
 
 pub overflow_add-base : goal.overflow_add-base
-overflow_add-base c = omega (arith, inside c.before.before)
+overflow_add-base c = omega (arith, inside (goal.at.overflow_add-base c).In-loop-k)
 
 pub carry_at-requires : goal.carry_at-requires
 carry_at-requires c =
     let p = c.requires.1 in
-    (omega (arith, inside c.before.before), (omega (arith, p.0), p.1))
+    (omega (arith, inside (goal.at.carry_at-requires c).In-loop-k), (omega (arith, p.0), p.1))
 
 pub loop-k-preserved : goal.loop-k-preserved
 loop-k-preserved c =

@@ -5,27 +5,27 @@ use Rattle.lists.specs.Line.{placed}
 use Rattle.body_layer.proofs.SizeLaws.{Inside}
 use Rattle.thin_layer.proofs.Turning.{turning_start, turning_more, turning_end}
 use Rattle.grid_layer.proofs.carry_lines.Goals as goal
-use Rattle.grid_layer.proofs.carry_lines.Tie as tie
+use Rattle.grid_layer.proofs.carry_lines.Goals.{In-loop-j}
 
 pub loop-j-init : goal.loop-j-init
 loop-j-init c = turning_start _ _ _
 
-abbrev place : tie.In-loop-j goal.the-invariant-loop-j goal.the-decreases-loop-j → ℕ → ℕ
+abbrev place : In-loop-j → ℕ → ℕ
 place c k = placed c.args.base c.args.across c.args.stride c.loop-j.j k
 
 -- the line's places lie in each layer
-inside : (c : tie.In-loop-j goal.the-invariant-loop-j goal.the-decreases-loop-j) (k : ℕ) → k < (start c).args.n
-    → Inside (place c k) (start c).args.text.now (start c).args.thins.now (start c).args.bodies.now (start c).args.grid.now
+inside : (c : In-loop-j) (k : ℕ) → k < c.args.n
+    → Inside (place c k) c.args.text.now c.args.thins.now c.args.bodies.now c.args.grid.now
 inside c k h = c.requires.by_index c.loop-j.j k c.loop-j-test.true h
 
 pub overflow_mul-j : goal.overflow_mul-j
-overflow_mul-j c = omega (arith, inside c.before.before 0 (omega arith))
+overflow_mul-j c = omega (arith, inside (goal.at.overflow_mul-j c).In-loop-j 0 (omega arith))
 
 pub overflow_add-base : goal.overflow_add-base
-overflow_add-base c = omega (arith, inside c.before.before 0 (omega arith))
+overflow_add-base c = omega (arith, inside (goal.at.overflow_add-base c).In-loop-j 0 (omega arith))
 
 pub carry_line-requires : goal.carry_line-requires
-carry_line-requires c = ((λ k h. omega (arith, inside c.before.before k h, c.loop-j.invariant.long)), (omega arith, c.requires.line_stays))
+carry_line-requires c = ((λ k h. omega (arith, inside (goal.at.carry_line-requires c).In-loop-j k h, c.loop-j.invariant.long)), (omega arith, c.requires.line_stays))
 
 pub loop-j-preserved : goal.loop-j-preserved
 loop-j-preserved c =

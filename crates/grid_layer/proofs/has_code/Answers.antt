@@ -8,26 +8,26 @@ use lib.ListN.{length}
 use borrow.Author.Tests.{eq-eqb, ne_eqb}
 use Rattle.lists.proofs.OneOfLaws.{any_none, any_more, any_found}
 use Rattle.grid_layer.proofs.has_code.Goals as goal
-use Rattle.grid_layer.proofs.has_code.Tie as tie
+use Rattle.grid_layer.proofs.has_code.Goals.{In-loop-k}
 
 pub loop-k-init : goal.loop-k-init
 loop-k-init c = (search rules, any_none _)
 
-inside : (c : tie.In-loop-k goal.the-invariant-loop-k goal.the-decreases-loop-k)
+inside : (c : In-loop-k)
     → c.before.before.args.base + c.before.loop.k * c.before.before.args.stride < length c.before.before.args.s.now
 inside c = c.requires c.loop-k.k c.loop-k-test.true
 
 pub overflow_mul-k : goal.overflow_mul-k
-overflow_mul-k c = omega (arith, inside c.before)
+overflow_mul-k c = omega (arith, inside c)
 
 pub overflow_add-base : goal.overflow_add-base
-overflow_add-base c = omega (arith, inside c.before)
+overflow_add-base c = omega (arith, inside c)
 
 pub offset_bounds-s-base : goal.offset_bounds-s-base
-offset_bounds-s-base c = omega (arith, inside c.before)
+offset_bounds-s-base c = omega (arith, inside c)
 
 pub bounds-s-base : goal.bounds-s-base
-bounds-s-base c = inside c.before.before
+bounds-s-base c = inside (goal.at.bounds-s-base c).In-loop-k
 
 pub returns-then-s-base : goal.returns-then-s-base
 returns-then-s-base c = sym (any_found _ _ c.loop-k.k c.loop-k-test.true (eq-eqb _ _ c.if-s-base.true))

@@ -8,39 +8,39 @@ use Rattle.body_layer.proofs.SizeLaws.{layers_again, corner_in_lem, rows_in_lem,
 use Rattle.grid_layer.proofs.CarryLaws.{across_stays, down_stays}
 use Rattle.grid_layer.proofs.GridLaws.{grid-canvas}
 use Rattle.grid_layer.proofs.make_grid.Goals as goal
-use Rattle.grid_layer.proofs.make_grid.Tie as tie
+use Rattle.grid_layer.proofs.make_grid.Goals.{After-carry_lines, After-copy_layer, Start}
 
 -- the layers at entry, with g for GRID
-abbrev Layers : tie.Start → List ℕ → Type 0
+abbrev Layers : Start → List ℕ → Type 0
 Layers c g = LayersOf c.args.width c.args.rows c.args.text.now c.args.thins.now c.args.bodies.now g
 
-copied : (c : tie.After-copy_layer) → Layers c.before.before.before.before.before.before.before.before c.copy_layer.new.dst
+copied : (c : After-copy_layer) → Layers (UP.Start c) c.copy_layer.new.dst
 copied c = layers_again c.requires.0 _ c.copy_layer.auto.dst
 
-carried : (c : tie.After-carry_lines) → Layers c.before.before.before.before.before.before.before.before.before.before.before.before c.carry_lines.new.grid
-carried c = layers_again (copied c.before.before.before.before) _ c.carry_lines.auto.grid
+carried : (c : After-carry_lines) → Layers (UP.Start c) c.carry_lines.new.grid
+carried c = layers_again (copied (UP.After-copy_layer c)) _ c.carry_lines.auto.grid
 
-corner : (c : tie.After-copy_layer) → (start c).args.r.top * (start c).args.width + (start c).args.r.left < length (start c).args.grid.now
+corner : (c : After-copy_layer) → c.args.r.top * c.args.width + c.args.r.left < length c.args.grid.now
 corner c = corner_in_lem c.requires.1 c.args.grid.now c.requires.0.grid
 
 pub overflow_mul-base : goal.overflow_mul-base
-overflow_mul-base c = omega (arith, corner c.before.before.before)
+overflow_mul-base c = omega (arith, corner (goal.at.overflow_mul-base c).After-copy_layer)
 
 pub overflow_add-base : goal.overflow_add-base
-overflow_add-base c = omega (arith, corner c.before.before.before)
+overflow_add-base c = omega (arith, corner (goal.at.overflow_add-base c).After-copy_layer)
 
 pub carry_lines-requires : goal.carry_lines-requires
 carry_lines-requires c =
-    (rows_in_lem c.requires.1 (copied c.before.before.before.before), (omega arith, across_stays))
+    (rows_in_lem c.requires.1 (copied (goal.at.carry_lines-requires c).After-copy_layer), (omega arith, across_stays))
 
 pub carry_lines-requires-2 : goal.carry_lines-requires-2
 carry_lines-requires-2 c =
     let p = c.requires in
-    (columns_in p.1 (carried c.before.before.before.before), (omega arith, down_stays))
+    (columns_in p.1 (carried (goal.at.carry_lines-requires-2 c).After-carry_lines), (omega arith, down_stays))
 
 pub returns : goal.returns
 returns c =
     let a = c.args in
     let p = c.requires in
-    grid-canvas a.width a.rows a.r p.1 a.bodies.now a.grid.now _ _ _ p.0.body (copied c.before.before.before.before.before.before.before.before.before.before.before).grid (carried c.before.before.before.before.before.before.before).grid
+    grid-canvas a.width a.rows a.r p.1 a.bodies.now a.grid.now _ _ _ p.0.body (copied (goal.at.returns c).After-copy_layer).grid (carried (goal.at.returns c).After-carry_lines).grid
     c.copy_layer.ensures c.carry_lines.ensures c.carry_lines-2.ensures

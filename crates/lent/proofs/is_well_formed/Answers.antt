@@ -7,42 +7,42 @@ use Rattle.lent.proofs.LimitLaws.{few-rows}
 use Rattle.lent.proofs.CountLaws.{same-regions, same-sizes}
 use Rattle.lent.proofs.FormLaws.{too_much, not_agreed, not_known, parts_decide}
 use Rattle.lent.proofs.is_well_formed.Goals as goal
-use Rattle.lent.proofs.is_well_formed.Tie as tie
+use Rattle.lent.proofs.is_well_formed.Goals.{Else-not-cells_known, Else-not-counts_agree, Else-not-is_within, Start}
 
-abbrev lent : tie.Start → LentPlane
+abbrev lent : Start → LentPlane
 lent s = let a = s.args in record { rows = a.rows.now; kinds = a.kinds.now; regions = a.regions.now; offsets = a.offsets.now; sizes = a.sizes.now; bytes = a.bytes.now }
 
 -- the tests that have held
-within : (c : tie.Else-not-is_within) → let l = lent (start c) in within_limits l.rows l.offsets l.bytes ≡ true
+within : (c : Else-not-is_within) → let l = lent (goal.at.counts_agree-requires c).Start in within_limits l.rows l.offsets l.bytes ≡ true
 within c = sym c.is_within.ensures ∙ c.if-not-is_within.false
 
-agree : (c : tie.Else-not-counts_agree) → let l = lent c.before.before.before.before.before.before.before.before.before.before in counts_agree l.rows l.kinds l.regions l.offsets l.sizes ≡ true
+agree : (c : Else-not-counts_agree) → let l = lent (goal.at.cells_known-requires c).Start in counts_agree l.rows l.kinds l.regions l.offsets l.sizes ≡ true
 agree c = sym c.counts_agree.ensures ∙ c.if-not-counts_agree.false
 
-known : (c : tie.Else-not-cells_known) → let l = lent c.before.before.before.before.before.before.before.before.before.before.before.before in cells_known (length l.offsets) l.kinds l.regions ≡ true
+known : (c : Else-not-cells_known) → let l = lent (goal.at.parts_good-requires c).Start in cells_known (length l.offsets) l.kinds l.regions ≡ true
 known c = sym c.cells_known.ensures ∙ c.if-not-cells_known.false
 
 pub returns-then-not-is_within : goal.returns-then-not-is_within
-returns-then-not-is_within c = too_much (lent c.before.before.before.before.before.before.before.before.before) (sym c.is_within.ensures ∙ c.if-not-is_within.true)
+returns-then-not-is_within c = too_much (lent (goal.at.returns-then-not-is_within c).Start) (sym c.is_within.ensures ∙ c.if-not-is_within.true)
 
 pub counts_agree-requires : goal.counts_agree-requires
-counts_agree-requires c = let l = lent c.before.before.before.before.before.before.before.before.before in few-rows l.rows l.offsets l.bytes (within c.before)
+counts_agree-requires c = let l = lent (goal.at.counts_agree-requires c).Start in few-rows l.rows l.offsets l.bytes (within c)
 
 pub returns-then-not-counts_agree : goal.returns-then-not-counts_agree
-returns-then-not-counts_agree c = not_agreed (lent c.before.before.before.before.before.before.before.before.before.before.before) (within c.before.before.before) (sym c.counts_agree.ensures ∙ c.if-not-counts_agree.true)
+returns-then-not-counts_agree c = not_agreed (lent (goal.at.returns-then-not-counts_agree c).Start) (within (goal.at.returns-then-not-counts_agree c).Else-not-is_within) (sym c.counts_agree.ensures ∙ c.if-not-counts_agree.true)
 
 pub cells_known-requires : goal.cells_known-requires
-cells_known-requires c = let l = lent c.before.before.before.before.before.before.before.before.before.before.before in same-regions l.rows l.kinds l.regions l.offsets l.sizes (agree c.before)
+cells_known-requires c = let l = lent (goal.at.cells_known-requires c).Start in same-regions l.rows l.kinds l.regions l.offsets l.sizes (agree c)
 
 pub returns-then-not-cells_known : goal.returns-then-not-cells_known
 returns-then-not-cells_known c =
-    not_known (lent c.before.before.before.before.before.before.before.before.before.before.before.before.before) (within c.before.before.before.before.before) (agree c.before.before.before) (sym c.cells_known.ensures ∙ c.if-not-cells_known.true)
+    not_known (lent (goal.at.returns-then-not-cells_known c).Start) (within (goal.at.returns-then-not-cells_known c).Else-not-is_within) (agree (goal.at.returns-then-not-cells_known c).Else-not-counts_agree) (sym c.cells_known.ensures ∙ c.if-not-cells_known.true)
 
 pub parts_good-requires : goal.parts_good-requires
 parts_good-requires c =
-    let l = lent c.before.before.before.before.before.before.before.before.before.before.before.before.before in
-    same-sizes l.rows l.kinds l.regions l.offsets l.sizes (agree c.before.before.before)
+    let l = lent (goal.at.parts_good-requires c).Start in
+    same-sizes l.rows l.kinds l.regions l.offsets l.sizes (agree (goal.at.parts_good-requires c).Else-not-counts_agree)
 
 pub returns : goal.returns
 returns c =
-    parts_decide (lent c.before.before.before.before.before.before.before.before.before.before.before.before.before.before) (within c.before.before.before.before.before.before) (agree c.before.before.before.before) (known c.before.before) _ c.parts_good.ensures
+    parts_decide (lent (goal.at.returns c).Start) (within (goal.at.returns c).Else-not-is_within) (agree (goal.at.returns c).Else-not-counts_agree) (known (goal.at.returns c).Else-not-cells_known) _ c.parts_good.ensures

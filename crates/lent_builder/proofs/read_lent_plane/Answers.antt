@@ -1,19 +1,15 @@
 -- `lent_builder::read_lent_plane` meets its contract.
-use mathlib.Core.List.{List, [], ◌∷◌}
+use mathlib.Core.List.{[], ◌∷◌}
 use mathlib.Core.Path.{sym, ap, ◌∙◌, refl}
-use Prim.Native.Nat.{ℕ}
 use Rattle.lent.specs.LentPlane.{LentPlane}
 use Rattle.policies.specs.LentPolicy.{lent_policy}
 use Rattle.room.specs.Room.{room_in}
 use Rattle.lent_builder.specs.LentEnd.{lent_sizes}
 use Rattle.ends.proofs.EndLaws.{end_short}
 use Rattle.lent_builder.proofs.read_lent_plane.Goals as goal
-use Rattle.lent_builder.proofs.read_lent_plane.Tie as tie
+use Rattle.lent_builder.proofs.read_lent_plane.Goals.{Start}
 
-abbrev works : tie.Start → List (List ℕ)
-works s = s.args.plane.now ∷ s.args.spans.now ∷ s.args.upright.now ∷ s.args.slots.now ∷ []
-
-abbrev lent : tie.Start → LentPlane
+abbrev lent : Start → LentPlane
 lent s =
     let a = s.args in
     record { rows = a.rows.now; kinds = a.kinds.now; regions = a.regions.now; offsets = a.offsets.now; sizes = a.sizes.now; bytes = a.bytes.now }
@@ -49,4 +45,4 @@ returns-in-Enough c =
 
 pub returns-in-Short : goal.returns-in-Short
 returns-in-Short c =
-    end_short lent_sizes (lent_policy (lent c.before.before.before.before.before.before.before.before.before.before.before.before.before.before.before.before.before.before)) (works c.before.before.before.before.before.before.before.before.before.before.before.before.before.before.before.before.before.before) c.args.out.now _ (ap room_in (sym c.in-Short.is) ∙ c.work_slices.ensures)
+    end_short lent_sizes (lent_policy (lent (goal.at.returns-in-Short c).Start)) (c.args.plane.now ∷ c.args.spans.now ∷ c.args.upright.now ∷ c.args.slots.now ∷ []) c.args.out.now _ (ap room_in (sym c.in-Short.is) ∙ c.work_slices.ensures)

@@ -9,13 +9,13 @@ use Rattle.outcome_lines.proofs.OutcomeLaws.{Reported, lent_printable, end_repor
 use native.Mathlib.Omega.{arith}
 use borrow.Author.Rules.{rules}
 use Rattle.lent_reports.proofs.put_lent_plane.Goals as goal
-use Rattle.lent_reports.proofs.put_lent_plane.Tie as tie
+use Rattle.lent_reports.proofs.put_lent_plane.Goals.{After-read_lent_plane-stated, Start}
 
-abbrev lent : tie.Start → LentPlane
+abbrev lent : Start → LentPlane
 lent s = let a = s.args in record { rows = a.rows.now; kinds = a.kinds.now; regions = a.regions.now; offsets = a.offsets.now; sizes = a.sizes.now; bytes = a.bytes.now }
 
-told : (c : tie.After-read_lent_plane-stated) → Reported (lent_policy (lent c.before.before.before.before.before.before.before.before.before.before.before.before.before)) record_bytes c.read_lent_plane-stated.result c.read_lent_plane-stated.new.out
-told c = end_reported lent_sizes (lent_policy (lent c.before.before.before.before.before.before.before.before.before.before.before.before.before)) _ _ _ _ _ record_bytes (lent_printable (lent c.before.before.before.before.before.before.before.before.before.before.before.before.before)) (search rules) (search rules) c.read_lent_plane-stated.ensures
+told : (c : After-read_lent_plane-stated) → Reported (lent_policy (lent (UP.Start c))) record_bytes c.read_lent_plane-stated.result c.read_lent_plane-stated.new.out
+told c = end_reported lent_sizes (lent_policy (lent (UP.Start c))) _ _ _ _ _ record_bytes (lent_printable (lent (UP.Start c))) (search rules) (search rules) c.read_lent_plane-stated.ensures
 
 pub slice_bounds-read_lent_plane-end : goal.slice_bounds-read_lent_plane-end
 slice_bounds-read_lent_plane-end c = refl
@@ -33,7 +33,7 @@ pub slice_bounds-read_lent_plane-end-5 : goal.slice_bounds-read_lent_plane-end-5
 slice_bounds-read_lent_plane-end-5 c = refl
 
 pub put_outcome-requires : goal.put_outcome-requires
-put_outcome-requires c = (omega (arith, c.requires), omega (arith, c.read_lent_plane-stated.auto.out), (told c.before.before.before.before.before.before.before.before).sound)
+put_outcome-requires c = (omega (arith, c.requires), omega (arith, c.read_lent_plane-stated.auto.out), (told (goal.at.put_outcome-requires c).After-read_lent_plane-stated).sound)
 
 pub returns : goal.returns
-returns c = written_as c.put_outcome.ensures (told c.before.before.before.before.before.before.before.before.before.before.before).lines
+returns c = written_as c.put_outcome.ensures (told (goal.at.returns c).After-read_lent_plane-stated).lines

@@ -7,10 +7,10 @@ use Rattle.walks.specs.Frame.{Place, framed_in}
 use Rattle.outline.proofs.OutlineLaws.{walk_fits, table_made, no_body}
 use native.Mathlib.Omega.{arith}
 use Rattle.outline.proofs.recognize_table.Goals as goal
-use Rattle.outline.proofs.recognize_table.Tie as tie
+use Rattle.outline.proofs.recognize_table.Goals.{Start}
 
 -- the main crossing's place
-spot : (t : tie.Start) → Place t.args.w t.args.h (t.args.cross % t.args.w) (t.args.cross / t.args.w) (length t.args.layer.now)
+spot : (t : Start) → Place t.args.w t.args.h (t.args.cross % t.args.w) (t.args.cross / t.args.w) (length t.args.layer.now)
 spot t =
     let a = t.args in
     record { column = column_in a.w a.h a.cross t.requires.0; row = row_in_lem a.w a.h a.cross t.requires.0; size = t.requires.1 }
@@ -22,25 +22,25 @@ pub nonzero_div-y : goal.nonzero_div-y
 nonzero_div-y c = columns c.args.w c.args.h c.args.cross c.requires.0
 
 pub recognize_body-requires : goal.recognize_body-requires
-recognize_body-requires c = spot c.before.before
+recognize_body-requires c = spot (goal.at.recognize_body-requires c).Start
 
 pub returns-in-NotFramed : goal.returns-in-NotFramed
 returns-in-NotFramed c =
     no_body _ _ _ _ _ _ (sym c.recognize_body.ensures ∙ ap framed_in c.in-NotFramed.is)
 
 pub crossing_right-requires : goal.crossing_right-requires
-crossing_right-requires c = spot c.before.before.before.before.before.before
+crossing_right-requires c = spot (goal.at.crossing_right-requires c).Start
 
 pub crossed-right-requires : goal.crossed-right-requires
 crossed-right-requires c =
-    walk_fits _ _ _ _ (c.args.cross % c.args.w) c.crossing_right.result (omega (arith, (spot c.before.before.before.before.before.before.before).column, c.fits.w.fits)) c.crossing_right.ensures
+    walk_fits _ _ _ _ (c.args.cross % c.args.w) c.crossing_right.result (omega (arith, (spot (goal.at.crossed-right-requires c).Start).column, c.fits.w.fits)) c.crossing_right.ensures
 
 pub crossing_below-requires : goal.crossing_below-requires
-crossing_below-requires c = spot c.before.before.before.before.before.before.before.before
+crossing_below-requires c = spot (goal.at.crossing_below-requires c).Start
 
 pub crossed-below-requires : goal.crossed-below-requires
 crossed-below-requires c =
-    walk_fits _ _ _ _ (c.args.cross / c.args.w) c.crossing_below.result (omega (arith, (spot c.before.before.before.before.before.before.before.before.before).row, c.fits.h.fits)) c.crossing_below.ensures
+    walk_fits _ _ _ _ (c.args.cross / c.args.w) c.crossing_below.result (omega (arith, (spot (goal.at.crossed-below-requires c).Start).row, c.fits.h.fits)) c.crossing_below.ensures
 
 pub returns : goal.returns
 returns c =

@@ -1,43 +1,31 @@
 -- `plane::lent_sheet` meets its contract.
 use mathlib.Core.Path.{◌≡◌, sym, ap, ◌∙◌, subst}
-use mathlib.Core.List.{List}
-use Prim.Native.Nat.{ℕ}
 use lib.ListN.{length}
 use Rattle.lists.specs.Answer.{ok}
-use Rattle.cells.specs.Plane.{TextPlane, plane_in}
+use Rattle.cells.specs.Plane.{plane_in}
 use Rattle.cells.specs.Spans.{texts_in}
 use Rattle.lent.specs.Held.{loaded_in, LoadedHeld}
 use Rattle.lent.specs.LentPlane.{LentPlane, lent_of}
 use Rattle.lent.specs.declared.Loaded.{Loaded}
 use Rattle.plane.proofs.LentSheetLaws.{not_lent, lent_stated}
 use Rattle.plane.proofs.lent_sheet.Goals as goal
-use Rattle.plane.proofs.lent_sheet.Tie as tie
+use Rattle.plane.proofs.lent_sheet.Goals.{In-Rows}
 
-abbrev plane : tie.In-Rows → List ℕ
-plane c = c.load.new.plane
-
-abbrev spans : tie.In-Rows → List ℕ
-spans c = c.load.new.spans
-
-abbrev lent : tie.In-Rows → LentPlane
+abbrev lent : In-Rows → LentPlane
 lent c =
     let a = c.args in
     record { rows = a.rows.now; kinds = a.kinds.now; regions = a.regions.now; offsets = a.offsets.now; sizes = a.sizes.now; bytes = a.bytes.now }
 
-abbrev text_plane : tie.In-Rows → TextPlane
-text_plane c =
-    record { plane = plane_in (plane c) c.n-1.given.0.0; texts = texts_in c.args.bytes.now (spans c) (length c.args.offsets.now) }
-
-told : (c : tie.In-Rows) → ok (text_plane c) ≡ lent_of (lent c)
-told c = ap (λ (m : Loaded). loaded_in m (plane c) c.args.bytes.now (spans c) (length c.args.offsets.now)) (sym c.n-1.given.1) ∙ c.load.ensures.loaded
+told : (c : In-Rows) → ok (record { plane = plane_in ((c.load.new.plane)) c.in-Rows.n; texts = texts_in c.args.bytes.now ((c.load.new.spans)) (length c.args.offsets.now) }) ≡ lent_of (lent c)
+told c = ap (λ (m : Loaded). loaded_in m (c.load.new.plane) c.args.bytes.now (c.load.new.spans) (length c.args.offsets.now)) (sym c.in-Rows.is) ∙ c.load.ensures.loaded
 
 pub upright_sheet-requires : goal.upright_sheet-requires
 upright_sheet-requires c =
-    (subst (λ (m : Loaded). LoadedHeld m (plane c.before.before) c.args.bytes.now (spans c.before.before) (length c.args.offsets.now)) c.in-Rows.is c.load.ensures.held, c.requires.upright)
+    (subst (λ (m : Loaded). LoadedHeld m (c.load.new.plane) c.args.bytes.now (c.load.new.spans) (length c.args.offsets.now)) c.in-Rows.is c.load.ensures.held, c.requires.upright)
 
 pub returns-in-Rows : goal.returns-in-Rows
 returns-in-Rows c =
-    (lent_stated (lent c.before.before.before.before.before) (text_plane c.before.before.before.before.before) (told c.before.before.before.before.before) _ c.upright_sheet.ensures.sheet, c.upright_sheet.ensures.held)
+    (lent_stated (lent (goal.at.returns-in-Rows c).In-Rows) (record { plane = plane_in ((c.load.new.plane)) c.in-Rows.n; texts = texts_in c.args.bytes.now ((c.load.new.spans)) (length c.args.offsets.now) }) (told (goal.at.returns-in-Rows c).In-Rows) _ c.upright_sheet.ensures.sheet, c.upright_sheet.ensures.held)
 
 pub returns-in-NotLoaded : goal.returns-in-NotLoaded
 returns-in-NotLoaded c =

@@ -9,10 +9,10 @@ use Rattle.turning.specs.Turned.{turned_in, TurnedFits}
 use Rattle.turning.specs.declared.Turned.{Turned}
 use Rattle.plane.proofs.StatedLaws.{oriented_rows, not_oriented, not_upright, upright, upright-held}
 use Rattle.plane.proofs.upright_sheet.Goals as goal
-use Rattle.plane.proofs.upright_sheet.Tie as tie
+use Rattle.plane.proofs.upright_sheet.Goals.{In-Sheet}
 
-oriented : (c : tie.In-Sheet) → ok c.o-1.given.0.0 ≡ oriented_of (text_in c.args.bytes.now c.args.spans.now c.args.count) (plane_in c.args.plane.now c.args.n)
-oriented c = ap oriented_in (sym c.o-1.given.1) ∙ c.orient.ensures
+oriented : (c : In-Sheet) → ok c.in-Sheet.o ≡ oriented_of (text_in c.args.bytes.now c.args.spans.now c.args.count) (plane_in c.args.plane.now c.args.n)
+oriented c = ap oriented_in (sym c.in-Sheet.is) ∙ c.orient.ensures
 
 pub returns-in-NotOriented : goal.returns-in-NotOriented
 returns-in-NotOriented c =
@@ -20,13 +20,13 @@ returns-in-NotOriented c =
 
 pub upright-requires : goal.upright-requires
 upright-requires c =
-    (record { fits = c.requires.0.fits; room = c.requires.1 }, oriented_rows _ _ _ _ (oriented c.before.before))
+    (record { fits = c.requires.0.fits; room = c.requires.1 }, oriented_rows _ _ _ _ (oriented (goal.at.upright-requires c).In-Sheet))
 
 pub returns-in-Rows : goal.returns-in-Rows
 returns-in-Rows c =
     let e = ap (λ (m : Turned). turned_in m c.upright.new.out) (sym c.in-Rows.is) ∙ c.upright.ensures.turned in
-    (upright _ _ _ (oriented c.before.before.before.before.before.before.before.before) _ e, upright-held _ _ _ _ _ _ _ _ c.requires.0 e (subst (λ (m : Turned). TurnedFits m c.upright.new.out) c.in-Rows.is c.upright.ensures.fits))
+    (upright _ _ _ (oriented (goal.at.returns-in-Rows c).In-Sheet) _ e, upright-held _ _ _ _ _ _ _ _ c.requires.0 e (subst (λ (m : Turned). TurnedFits m c.upright.new.out) c.in-Rows.is c.upright.ensures.fits))
 
 pub returns-in-NotTurned : goal.returns-in-NotTurned
 returns-in-NotTurned c =
-    (not_upright _ _ _ (oriented c.before.before.before.before.before.before.before.before) _ (ap (λ (m : Turned). turned_in m c.upright.new.out) (sym c.in-NotTurned.is) ∙ c.upright.ensures.turned), tt)
+    (not_upright _ _ _ (oriented (goal.at.returns-in-NotTurned c).In-Sheet) _ (ap (λ (m : Turned). turned_in m c.upright.new.out) (sym c.in-NotTurned.is) ∙ c.upright.ensures.turned), tt)

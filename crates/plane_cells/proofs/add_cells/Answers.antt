@@ -10,36 +10,30 @@ use Rattle.cells.proofs.PlaneLaws.{kept_refl, kept_then}
 use Rattle.plane_cells.specs.Row.{is_at}
 use Rattle.plane_cells.proofs.CellLaws.{one_few, row_over, cells_over, cells_added}
 use Rattle.plane_cells.proofs.add_cells.Goals as goal
-use Rattle.plane_cells.proofs.add_cells.Tie as tie
+use Rattle.plane_cells.proofs.add_cells.Goals.{After-add_line_if-a, After-add_line_if-b, After-one_if-2}
 
-abbrev is_output : tie.Start → Bool
-is_output t = eqb t.args.x t.args.o.x
-
-abbrev is_annotation : tie.Start → Bool
-is_annotation t = is_at t.args.o.right t.args.x
-
-low : (c : tie.After-one_if-2) → (start c).args.row < plane_rows
+low : (c : After-one_if-2) → c.args.row < plane_rows
 low c = c.if-row-ge-PLANE_ROWS.false
 
-told : (c : tie.After-one_if-2) → c.is_at-is_annotation.result ≡ is_annotation c.before.before.before.before.before.before
+told : (c : After-one_if-2) → c.is_at-is_annotation.result ≡ (is_at c.args.o.right c.args.x)
 told c = c.is_at-is_annotation.ensures
 
-output_one : (c : tie.After-one_if-2) → c.one_if.result ≡ choose (is_output c.before.before.before.before.before.before) 1 0
+output_one : (c : After-one_if-2) → c.one_if.result ≡ choose (eqb c.args.x c.args.o.x) 1 0
 output_one c = c.one_if.ensures
 
-annotation_one : (c : tie.After-one_if-2) → c.one_if-2.result ≡ choose (is_annotation c.before.before.before.before.before.before) 1 0
+annotation_one : (c : After-one_if-2) → c.one_if-2.result ≡ choose (is_at c.args.o.right c.args.x) 1 0
 annotation_one c = c.one_if-2.ensures ∙ ap (λ (b : Bool). choose b 1 0) (told c)
 
-ends : (a : tie.After-add_line_if-a) → a.add_line_if-a.result ≡ a.args.s.cells + choose (is_output a.before.before.before.before.before.before.before.before.before) 1 0
+ends : (a : After-add_line_if-a) → a.add_line_if-a.result ≡ a.args.s.cells + choose (eqb a.args.x a.args.o.x) 1 0
 ends a = a.add_line_if-a.ensures.ends
 
-ends_2 : (b : tie.After-add_line_if-b) → b.add_line_if-b.result ≡ b.add_line_if-a.result + choose (is_annotation b.before.before.before.before.before.before.before.before.before.before.before.before.before) 1 0
-ends_2 b = b.add_line_if-b.ensures.ends ∙ ap (λ (u : Bool). b.add_line_if-a.result + choose u 1 0) (told b.before.before.before.before.before.before.before)
+ends_2 : (b : After-add_line_if-b) → b.add_line_if-b.result ≡ b.add_line_if-a.result + choose (is_at b.args.o.right b.args.x) 1 0
+ends_2 b = b.add_line_if-b.ensures.ends ∙ ap (λ (u : Bool). b.add_line_if-a.result + choose u 1 0) (told (UP.After-one_if-2 b))
 
 -- the frame's own cell fits behind the double lines
-room : (b : tie.After-add_line_if-b) → b.add_line_if-b.result < plane_cells
+room : (b : After-add_line_if-b) → b.add_line_if-b.result < plane_cells
 room b =
-    omega (arith, b.if-from-one_if-gt-PLANE_CELLS.left, ends b.before.before.before.before, ends_2 b, output_one b.before.before.before.before.before.before.before, annotation_one b.before.before.before.before.before.before.before)
+    omega (arith, b.if-from-one_if-gt-PLANE_CELLS.left, ends (UP.After-add_line_if-a b), ends_2 b, output_one (UP.After-one_if-2 b), annotation_one (UP.After-one_if-2 b))
 
 pub returns-then-row-ge-PLANE_ROWS : goal.returns-then-row-ge-PLANE_ROWS
 returns-then-row-ge-PLANE_ROWS c =
@@ -47,41 +41,41 @@ returns-then-row-ge-PLANE_ROWS c =
 
 pub overflow_add-from : goal.overflow_add-from
 overflow_add-from c =
-    omega (arith, c.requires.1.few, c.one_if.ensures, one_few (is_output c.before.before.before.before.before.before))
+    omega (arith, c.requires.1.few, c.one_if.ensures, one_few (eqb c.args.x c.args.o.x))
 
 pub overflow_add-from-2 : goal.overflow_add-from-2
-overflow_add-from-2 c = omega (arith, output_one c.before, annotation_one c.before, c.requires.1.few, one_few (is_output c.before.before.before.before.before.before.before), one_few (is_annotation c.before.before.before.before.before.before.before))
+overflow_add-from-2 c = omega (arith, output_one c, annotation_one c, c.requires.1.few, one_few (eqb c.args.x c.args.o.x), one_few (is_at c.args.o.right c.args.x))
 
 pub overflow_add-from-3 : goal.overflow_add-from-3
-overflow_add-from-3 c = omega (arith, output_one c.before, annotation_one c.before, c.requires.1.few, one_few (is_output c.before.before.before.before.before.before.before), one_few (is_annotation c.before.before.before.before.before.before.before))
+overflow_add-from-3 c = omega (arith, output_one c, annotation_one c, c.requires.1.few, one_few (eqb c.args.x c.args.o.x), one_few (is_at c.args.o.right c.args.x))
 
 pub returns-then-from-one_if-gt-PLANE_CELLS : goal.returns-then-from-one_if-gt-PLANE_CELLS
 returns-then-from-one_if-gt-PLANE_CELLS c =
-    (cells_over c.args.o c.args.x c.args.region c.args.row c.args.s c.args.plane.now (low c.before.before) (omega (arith, output_one c.before.before, annotation_one c.before.before, c.if-from-one_if-gt-PLANE_CELLS.true)), (tt, kept_refl c.args.plane.now c.args.row))
+    (cells_over c.args.o c.args.x c.args.region c.args.row c.args.s c.args.plane.now (low (goal.at.returns-then-from-one_if-gt-PLANE_CELLS c).After-one_if-2) (omega (arith, output_one (goal.at.returns-then-from-one_if-gt-PLANE_CELLS c).After-one_if-2, annotation_one (goal.at.returns-then-from-one_if-gt-PLANE_CELLS c).After-one_if-2, c.if-from-one_if-gt-PLANE_CELLS.true)), (tt, kept_refl c.args.plane.now c.args.row))
 
 pub add_line_if-a-requires : goal.add_line_if-a-requires
 add_line_if-a-requires c =
-    (low c.before.before.before, (λ e. omega (arith, c.if-from-one_if-gt-PLANE_CELLS.false)), c.requires.2, omega arith)
+    (low (goal.at.add_line_if-a-requires c).After-one_if-2, (λ e. omega (arith, c.if-from-one_if-gt-PLANE_CELLS.false)), c.requires.2, omega arith)
 
 pub add_line_if-b-requires : goal.add_line_if-b-requires
 add_line_if-b-requires c =
-    (low c.before.before.before.before.before.before.before, (λ e. omega (arith, c.if-from-one_if-gt-PLANE_CELLS.false, ends c.before.before.before.before, output_one c.before.before.before.before.before.before.before)), omega (arith, c.requires.2, c.add_line_if-a.auto.plane), omega arith)
+    (low (goal.at.add_line_if-b-requires c).After-one_if-2, (λ e. omega (arith, c.if-from-one_if-gt-PLANE_CELLS.false, ends (goal.at.add_line_if-b-requires c).After-add_line_if-a, output_one (goal.at.add_line_if-b-requires c).After-one_if-2)), omega (arith, c.requires.2, c.add_line_if-a.auto.plane), omega arith)
 
 pub put_cell-requires : goal.put_cell-requires
 put_cell-requires c =
-    (low c.before.before.before.before.before.before.before.before.before.before.before, room c.before.before.before.before, omega (arith, c.requires.2, c.add_line_if-a.auto.plane, c.add_line_if-b.auto.plane), omega (arith, c.requires.0))
+    (low (goal.at.put_cell-requires c).After-one_if-2, room (goal.at.put_cell-requires c).After-add_line_if-b, omega (arith, c.requires.2, c.add_line_if-a.auto.plane, c.add_line_if-b.auto.plane), omega (arith, c.requires.0))
 
 pub overflow_add-result : goal.overflow_add-result
-overflow_add-result c = omega (arith, room c.before.before.before.before.before.before.before.before.before)
+overflow_add-result c = omega (arith, room (goal.at.overflow_add-result c).After-add_line_if-b)
 
 pub returns : goal.returns
 returns c =
     (
-      cells_added c.args.o c.args.x c.args.region c.args.row c.args.s c.args.plane.now c.is_at-is_annotation.result (told c.before.before.before.before.before.before.before.before.before.before.before.before.before.before.before.before) (low c.before.before.before.before.before.before.before.before.before.before.before.before.before.before.before.before)
-          (omega (arith, c.if-from-one_if-gt-PLANE_CELLS.left, output_one c.before.before.before.before.before.before.before.before.before.before.before.before.before.before.before.before, annotation_one c.before.before.before.before.before.before.before.before.before.before.before.before.before.before.before.before)) c.add_line_if-a.result c.add_line_if-b.result _ _ _
+      cells_added c.args.o c.args.x c.args.region c.args.row c.args.s c.args.plane.now c.is_at-is_annotation.result (told (goal.at.returns c).After-one_if-2) (low (goal.at.returns c).After-one_if-2)
+          (omega (arith, c.if-from-one_if-gt-PLANE_CELLS.left, output_one (goal.at.returns c).After-one_if-2, annotation_one (goal.at.returns c).After-one_if-2)) c.add_line_if-a.result c.add_line_if-b.result _ _ _
           c.add_line_if-a.ensures.cells c.add_line_if-b.ensures.cells c.put_cell.ensures.cells c.column_if-output.ensures c.column_if-annotation.ensures,
       (
-        record { few = omega (arith, room c.before.before.before.before.before.before.before.before.before); low = λ z. low c.before.before.before.before.before.before.before.before.before.before.before.before.before.before.before.before },
+        record { few = omega (arith, room (goal.at.returns c).After-add_line_if-b); low = λ z. low (goal.at.returns c).After-one_if-2 },
         kept_then c.args.plane.now _ _ c.args.row c.add_line_if-a.ensures.before (kept_then _ _ _ c.args.row c.add_line_if-b.ensures.before c.put_cell.ensures.before),
       ),
     )

@@ -15,24 +15,24 @@ use Rattle.rects.specs.Rects.{rects_of}
 use Rattle.regions.specs.Regions.{add_region}
 use Rattle.regions.proofs.RegionLaws.{place_of, frame_small}
 use Rattle.regions.proofs.add_region.Goals as goal
-use Rattle.regions.proofs.add_region.Tie as tie
+use Rattle.regions.proofs.add_region.Goals.{After-recognize_region, Start}
 
-some : (t : tie.Start) → 0 < t.args.w
+some : (t : Start) → 0 < t.args.w
 some t = columns t.args.w t.args.h t.args.i t.requires.1
 
 -- the frame that was found goes behind the regions so far
-added : (g : tie.After-recognize_region) {F : Framed} → g.recognize-region.result ≡ F
-    → ◌>>=◌ (framed_in F) (λ r. ok (rects_of g.before.before.before.args.rects.now g.before.before.before.args.n ++ (r ∷ [])))
-    ≡ add_region (frame_of thin (canvas g.before.before.before.args.w g.before.before.before.args.h g.before.before.before.args.layer.now) g.before.before.before.args.w g.before.before.before.args.h)
-    g.before.before.before.args.w g.before.before.before.args.i (rects_of g.before.before.before.args.rects.now g.before.before.before.args.n)
+added : (g : After-recognize_region) {F : Framed} → g.recognize_region.result ≡ F
+    → ◌>>=◌ (framed_in F) (λ r. ok (rects_of g.args.rects.now g.args.n ++ (r ∷ [])))
+    ≡ add_region (frame_of thin (canvas g.args.w g.args.h g.args.layer.now) g.args.w g.args.h)
+    g.args.w g.args.i (rects_of g.args.rects.now g.args.n)
 added g e =
     ap (λ (m : Reading Rect). ◌>>=◌ m (λ r. ok (rects_of g.args.rects.now g.args.n ++ (r ∷ [])))) (ap framed_in (sym e) ∙ g.recognize_region.ensures)
 
 pub nonzero_rem-i : goal.nonzero_rem-i
-nonzero_rem-i c = some c.before.before.before
+nonzero_rem-i c = some (goal.at.nonzero_rem-i c).Start
 
 pub nonzero_div-i : goal.nonzero_div-i
-nonzero_div-i c = some c.before.before.before
+nonzero_div-i c = some (goal.at.nonzero_div-i c).Start
 
 pub recognize_region-requires : goal.recognize_region-requires
 recognize_region-requires c =
@@ -48,7 +48,7 @@ put_rect-requires c =
 
 pub returns-in-Closed : goal.returns-in-Closed
 returns-in-Closed c =
-    ap ok c.put_rect.ensures ∙ added c.before.before.before.before.before.before.before.before c.in-Closed.is
+    ap ok c.put_rect.ensures ∙ added (goal.at.returns-in-Closed c).After-recognize_region c.in-Closed.is
 
 pub returns-in-NotFramed : goal.returns-in-NotFramed
-returns-in-NotFramed c = added c.before.before.before.before c.in-NotFramed.is
+returns-in-NotFramed c = added (goal.at.returns-in-NotFramed c).After-recognize_region c.in-NotFramed.is

@@ -7,15 +7,15 @@ use Rattle.regions.specs.Regions.{Finder}
 use Rattle.regions.proofs.RegionLaws.{has_room, no_room}
 use native.Mathlib.Omega.{arith}
 use Rattle.regions.proofs.add_within.Goals as goal
-use Rattle.regions.proofs.add_within.Tie as tie
+use Rattle.regions.proofs.add_within.Goals.{Start}
 
-abbrev found : tie.Start → Finder
+abbrev found : Start → Finder
 found s = let a = s.args in frame_of thin (canvas a.w a.h a.layer.now) a.w a.h
 
 pub returns-then-n-ge-REGIONS : goal.returns-then-n-ge-REGIONS
 returns-then-n-ge-REGIONS c =
     let a = c.args in
-    sym (no_room (found c.before.before.before.before) a.w a.i a.rects.now a.n c.if-n-ge-REGIONS.true)
+    sym (no_room (found (goal.at.returns-then-n-ge-REGIONS c).Start) a.w a.i a.rects.now a.n c.if-n-ge-REGIONS.true)
 
 pub add_region-requires : goal.add_region-requires
 add_region-requires c =
@@ -24,4 +24,4 @@ add_region-requires c =
 pub returns : goal.returns
 returns c =
     let a = c.args in
-    c.add_region.ensures ∙ sym (has_room (found c.before.before.before.before.before.before.before.before) a.w a.i a.rects.now a.n c.if-n-ge-REGIONS.false)
+    c.add_region.ensures ∙ sym (has_room (found (goal.at.returns c).Start) a.w a.i a.rects.now a.n c.if-n-ge-REGIONS.false)

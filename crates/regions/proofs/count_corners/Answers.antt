@@ -8,11 +8,11 @@ use Rattle.lists.proofs.PlaceLaws.{at-canvas}
 use Rattle.regions.specs.Regions.{is_corner}
 use Rattle.regions.proofs.RegionLaws.{counting_start, counting_hit, counting_miss, counting_end}
 use Rattle.regions.proofs.count_corners.Goals as goal
-use Rattle.regions.proofs.count_corners.Tie as tie
+use Rattle.regions.proofs.count_corners.Goals.{After-is_corner}
 
 -- the test told whether a corner stands at the place
-corner : (i : tie.After-is_corner goal.the-invariant-loop-i goal.the-decreases-loop-i) {t : Bool} → i.is-corner.result ≡ t
-    → is_corner (at (canvas i.before.before.before.before.before.args.w i.before.before.before.before.before.args.h i.before.before.before.before.before.args.layer.now) i.before.before.before.before.before.args.w i.before.before.before.loop.i) ≡ t
+corner : (i : After-is_corner) {t : Bool} → i.is_corner.result ≡ t
+    → is_corner (at (canvas i.args.w i.args.h i.args.layer.now) i.args.w i.loop-i.i) ≡ t
 corner i e =
     let a = i.args in
     ap is_corner (at-canvas a.w a.h i.loop-i.i i.loop-i-test.true a.layer.now) ∙ sym i.is_corner.ensures ∙ e
@@ -24,8 +24,8 @@ pub loop-i-preserved : goal.loop-i-preserved
 loop-i-preserved c =
     let h = c.loop-i-test.true in
     ⊎_elim
-    (λ t. rw t.1 (counting_hit c.loop-i.invariant h (corner c.before.before t.0.taken)))
-    (λ e. rw e.1 (counting_miss c.loop-i.invariant h (corner c.before.before e.0.left)))
+    (λ t. rw t.1 (counting_hit c.loop-i.invariant h (corner (goal.at.loop-i-preserved c).After-is_corner t.0.taken)))
+    (λ e. rw e.1 (counting_miss c.loop-i.invariant h (corner (goal.at.loop-i-preserved c).After-is_corner e.0.left)))
     c.if-is_corner.branch
 
 pub returns : goal.returns

@@ -8,9 +8,9 @@ use Rattle.outcome_lines.proofs.OutcomeLaws.{Reported, drawn_printable, end_repo
 use native.Mathlib.Omega.{arith}
 use borrow.Author.Rules.{rules}
 use Rattle.reports.proofs.put_sheet.Goals as goal
-use Rattle.reports.proofs.put_sheet.Tie as tie
+use Rattle.reports.proofs.put_sheet.Goals.{After-read_sheet-drawn}
 
-told : (c : tie.After-read_sheet-drawn) → Reported (walked_policy c.args.s.now) record_bytes c.read_sheet-drawn.result c.read_sheet-drawn.new.out
+told : (c : After-read_sheet-drawn) → Reported (walked_policy c.args.s.now) record_bytes c.read_sheet-drawn.result c.read_sheet-drawn.new.out
 told c = end_reported sheet_sizes (walked_policy c.args.s.now) _ _ _ _ _ record_bytes (drawn_printable c.args.s.now) (search rules) (search rules) c.read_sheet-drawn.ensures
 
 pub slice_bounds-read_sheet-end : goal.slice_bounds-read_sheet-end
@@ -35,7 +35,7 @@ pub slice_bounds-read_sheet-end-7 : goal.slice_bounds-read_sheet-end-7
 slice_bounds-read_sheet-end-7 c = refl
 
 pub put_outcome-requires : goal.put_outcome-requires
-put_outcome-requires c = (omega (arith, c.requires), omega (arith, c.read_sheet-drawn.auto.out), (told c.before.before.before.before.before.before.before.before.before.before).sound)
+put_outcome-requires c = (omega (arith, c.requires), omega (arith, c.read_sheet-drawn.auto.out), (told (goal.at.put_outcome-requires c).After-read_sheet-drawn).sound)
 
 pub returns : goal.returns
-returns c = written_as c.put_outcome.ensures (told c.before.before.before.before.before.before.before.before.before.before.before.before.before).lines
+returns c = written_as c.put_outcome.ensures (told (goal.at.returns c).After-read_sheet-drawn).lines

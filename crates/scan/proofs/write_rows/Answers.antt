@@ -1,7 +1,7 @@
 -- `scan::write_rows` meets its contract.
 use mathlib.Core.Path.{◌≡◌, refl, ◌∙◌}
-use mathlib.Core.List.{List, ◌∷◌}
-use Prim.Native.Nat.{ℕ, ◌+◌, ◌-◌}
+use mathlib.Core.List.{◌∷◌}
+use Prim.Native.Nat.{◌+◌, ◌-◌}
 use native.Mathlib.Omega.{arith}
 use lib.ListN.{drop}
 use Rattle.lists.proofs.RunLaws.{length_run, drop-build, drop_build_end}
@@ -10,10 +10,7 @@ use Rattle.scan.specs.Rows.{blank}
 use Rattle.scan.proofs.TextLayer.{blank-length}
 use Rattle.scan.proofs.Writing.{text-layer, writing_start, writing_more, writing_end, writing_room}
 use Rattle.scan.proofs.write_rows.Goals as goal
-use Rattle.scan.proofs.write_rows.Tie as tie
-
-abbrev all : tie.At-loop-r goal.the-invariant-loop-r goal.the-decreases-loop-r → List (List ℕ)
-all t = rows_in t.args.s.now t.args.lines.now t.args.rows
+use Rattle.scan.proofs.write_rows.Goals.{In-loop-r}
 
 pub loop-r-init : goal.loop-r-init
 loop-r-init c =
@@ -23,15 +20,15 @@ loop-r-init c =
     )
 
 -- the row of a turn, and those behind it
-row : (c : tie.In-loop-r goal.the-invariant-loop-r goal.the-decreases-loop-r)
-    → drop c.before.loop.r (all c.before) ≡ row_in (start c.before).args.s.now (start c.before).args.lines.now c.before.loop.r ∷ drop (c.before.loop.r + 1) (all c.before)
+row : (c : In-loop-r)
+    → drop c.before.loop.r (all c.before) ≡ row_in c.args.s.now c.args.lines.now c.loop-r.r ∷ drop (c.loop-r.r + 1) (rows_in c.args.s.now c.args.lines.now c.args.rows)
 row c = let a = c.args in drop-build a.rows (row_in a.s.now a.lines.now) c.loop-r.r c.loop-r-test.true
 
 pub put_row-requires : goal.put_row-requires
 put_row-requires c =
     let i = c.loop-r.invariant in
-    let x = writing_room i.0 (row c.before.before.before.before.before) in
-    let y = writing_room i.1 (row c.before.before.before.before.before) in
+    let x = writing_room i.0 (row (goal.at.put_row-requires c).In-loop-r) in
+    let y = writing_room i.1 (row (goal.at.put_row-requires c).In-loop-r) in
     let n = c.requires.0 c.loop-r.r c.loop-r-test.true in
     (n, omega arith, x.1, y.1)
 
@@ -39,8 +36,8 @@ pub loop-r-preserved : goal.loop-r-preserved
 loop-r-preserved c =
     let i = c.loop-r.invariant in
     let k = c.put_row.auto.1.1.1.1 in (
-      writing_more i.0 (row c.before.before.before.before.before.before.before.before.before.before) c.put_row.ensures.text k.0,
-      writing_more i.1 (row c.before.before.before.before.before.before.before.before.before.before) c.put_row.ensures.body k.1.0,
+      writing_more i.0 (row (goal.at.loop-r-preserved c).In-loop-r) c.put_row.ensures.text k.0,
+      writing_more i.1 (row (goal.at.loop-r-preserved c).In-loop-r) c.put_row.ensures.body k.1.0,
     )
 
 pub shape_of-text : goal.shape_of-text

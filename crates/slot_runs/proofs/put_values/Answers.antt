@@ -10,22 +10,22 @@ use Rattle.slot_runs.specs.Spelt.{part_of, Spelt}
 use Rattle.slot_runs.proofs.ValueTexts.{MarkedIn, values-none, values-plain, marked_in, default_in, values-marked}
 use Rattle.slot_runs.proofs.SpeltLaws.{spelt_then, spelt_as, room_next, room_less}
 use Rattle.slot_runs.proofs.put_values.Goals as goal
-use Rattle.slot_runs.proofs.put_values.Tie as tie
+use Rattle.slot_runs.proofs.put_values.Goals.{After-put_rewritten-r, In-Marked}
 
 -- the default is measured
-marked : (c : tie.In-Marked)
+marked : (c : In-Marked)
     → MarkedIn (start c).args.bytes.now (start c).args.p c.before.n.given.0.0 c.before.n.given.0.1.0 c.before.n.given.0.1.1.0
 marked c =
-    marked_in c.args.bytes.now c.args.p c.requires.1 _ _ _ (rw c.n-1.given.1 at c.measure_values.ensures)
+    marked_in c.args.bytes.now c.args.p c.requires.1 _ _ _ (rw c.in-Marked.is at c.measure_values.ensures)
 
 -- the rewritten values are written
-rewritten : (c : tie.After-put_rewritten-r) → Spelt c.args.bytes.now c.args.slots.now c.put_rewritten-r.new.slots c.args.from c.put_rewritten-r.result
+rewritten : (c : After-put_rewritten-r) → Spelt c.args.bytes.now c.args.slots.now c.put_rewritten-r.new.slots c.args.from c.put_rewritten-r.result
     (some (values_of (part_of c.args.bytes.now c.args.p)).allowed ∷ [])
-rewritten c = c.put_rewritten-r.ensures c.args.bytes.now c.requires.1 (marked c.before.before).size
+rewritten c = c.put_rewritten-r.ensures c.args.bytes.now c.requires.1 (marked (UP.In-Marked c)).size
 
 -- where the default lies
-placed : (c : tie.In-Marked) → let a = c.args in
-    (a.p.offset + c.n-1.given.0.1.1.0 ≤ text_bytes) × (c.n-1.given.0.1.0 ≤ c.n-1.given.0.1.1.0)
+placed : (c : In-Marked) → let a = c.args in
+    (a.p.offset + c.in-Marked.b ≤ text_bytes) × (c.in-Marked.a ≤ c.in-Marked.b)
 placed c = let m = marked c in let i = c.requires.1 in (omega (arith, m.ends, i.inside, i.few), m.ordered)
 
 pub returns-then-p-eq0 : goal.returns-then-p-eq0
@@ -36,22 +36,22 @@ put_absent-requires c =
     room_next c.requires.0 (c.put_part-a.ensures c.args.bytes.now c.requires.1) refl (omega arith) c.put_part-a.auto.slots
 
 pub put_rewritten-r-requires : goal.put_rewritten-r-requires
-put_rewritten-r-requires c = (room_less c.requires.0 (omega arith), (marked c.before.before).few)
+put_rewritten-r-requires c = (room_less c.requires.0 (omega arith), (marked (goal.at.put_rewritten-r-requires c).In-Marked).few)
 
 pub overflow_add-start : goal.overflow_add-start
-overflow_add-start c = omega (arith, placed c.before.before.before.before.before.before)
+overflow_add-start c = omega (arith, placed (goal.at.overflow_add-start c).In-Marked)
 
 pub overflow_cast-start-in-Marked : goal.overflow_cast-start-in-Marked
-overflow_cast-start-in-Marked c = omega (arith, placed c.before.before.before.before.before.before)
+overflow_cast-start-in-Marked c = omega (arith, placed (goal.at.overflow_cast-start-in-Marked c).In-Marked)
 
 pub overflow_sub-b : goal.overflow_sub-b
-overflow_sub-b c = (placed c.before.before.before.before.before.before).1
+overflow_sub-b c = (placed (goal.at.overflow_sub-b c).In-Marked).1
 
 pub overflow_cast-b : goal.overflow_cast-b
-overflow_cast-b c = omega (arith, placed c.before.before.before.before.before.before)
+overflow_cast-b c = omega (arith, placed (goal.at.overflow_cast-b c).In-Marked)
 
 pub put_part-requires : goal.put_part-requires
-put_part-requires c = room_next c.requires.0 (rewritten c.before.before.before.before) refl (omega arith) c.put_rewritten-r.auto.slots
+put_part-requires c = room_next c.requires.0 (rewritten (goal.at.put_part-requires c).After-put_rewritten-r) refl (omega arith) c.put_rewritten-r.auto.slots
 
 pub returns-in-Plain : goal.returns-in-Plain
 returns-in-Plain c =
@@ -62,5 +62,5 @@ returns-in-Plain c =
 pub returns-in-Marked : goal.returns-in-Marked
 returns-in-Marked c =
     let b = c.args.bytes.now in
-    let v = values-marked b c.args.p c.requires.1 (omega (arith, c.if-p-eq0.false)) (marked c.before.before.before.before.before.before.before.before.before) in
-    spelt_as (spelt_then (rewritten c.before.before.before.before.before.before.before) (c.put_part.ensures b (default_in b c.args.p c.requires.1 (marked c.before.before.before.before.before.before.before.before.before)))) v
+    let v = values-marked b c.args.p c.requires.1 (omega (arith, c.if-p-eq0.false)) (marked (goal.at.returns-in-Marked c).In-Marked) in
+    spelt_as (spelt_then (rewritten (goal.at.returns-in-Marked c).After-put_rewritten-r) (c.put_part.ensures b (default_in b c.args.p c.requires.1 (marked (goal.at.returns-in-Marked c).In-Marked)))) v

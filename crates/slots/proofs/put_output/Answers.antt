@@ -7,14 +7,14 @@ use Rattle.slot_runs.specs.Spelt.{Room}
 use Rattle.slot_runs.proofs.ValueTexts.{value_texts}
 use Rattle.slot_runs.proofs.SpeltLaws.{spelt_then, spelt_as, optional_on, room_next}
 use Rattle.slots.proofs.put_output.Goals as goal
-use Rattle.slots.proofs.put_output.Tie as tie
+use Rattle.slots.proofs.put_output.Goals.{After-put_name-a}
 
 -- the room behind the name
-room-behind : (c : tie.After-put_name-a) → Room c.put_name-a.result 2 c.put_name-a.new.slots
+room-behind : (c : After-put_name-a) → Room c.put_name-a.result 2 c.put_name-a.new.slots
 room-behind c = room_next c.requires.1 c.put_name-a.ensures refl (omega arith) c.put_name-a.auto.slots
 
 pub put_values-requires : goal.put_values-requires
-put_values-requires c = (room-behind c.before.before.before.before.before.before.before.before.before, c.part_at-p.ensures.inside)
+put_values-requires c = (room-behind (goal.at.put_values-requires c).After-put_name-a, c.part_at-p.ensures.inside)
 
 pub returns-then-l : goal.returns-then-l
 returns-then-l c =
@@ -23,7 +23,7 @@ returns-then-l c =
     (spelt_as c.put_values.ensures (ap value_texts (optional_on none e c.if-l.true)))
 
 pub put_no_values-requires : goal.put_no_values-requires
-put_no_values-requires c = room-behind c.before.before.before.before.before.before
+put_no_values-requires c = room-behind (goal.at.put_no_values-requires c).After-put_name-a
 
 pub returns : goal.returns
 returns c =

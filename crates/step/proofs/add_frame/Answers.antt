@@ -7,35 +7,27 @@ use Rattle.lists.specs.Answer.{refused}
 use Rattle.lists.specs.Picture.{canvas}
 use Rattle.lists.proofs.PictureLaws.{place-fits}
 use Rattle.cells.proofs.PlaneLaws.{kept_refl}
-use Rattle.regions.specs.Regions.{Finder}
 use Rattle.walks.specs.Frame.{frame_of}
 use Rattle.walks.specs.Kinds.{grid}
 use Rattle.plane_cells.specs.Made.{row_of}
-use Rattle.plane_cells.specs.Row.{Row}
 use Rattle.step.proofs.RowLaws.{with_region, no_region_lem, number_at}
 use Rattle.step.proofs.add_frame.Goals as goal
-use Rattle.step.proofs.add_frame.Tie as tie
+use Rattle.step.proofs.add_frame.Goals.{Start}
 
-abbrev find : tie.Start → Finder
-find t = frame_of grid (canvas t.args.w t.args.h t.args.layer.now) t.args.w t.args.h
-
-abbrev so_far : tie.Start → Row
-so_far t = row_of t.args.s t.args.plane.now t.args.row
-
-inside : (t : tie.Start) → t.args.y * t.args.w + t.args.x < length t.args.found.now
+inside : (t : Start) → t.args.y * t.args.w + t.args.x < length t.args.found.now
 inside t = place-fits t.args.h t.args.w t.args.x t.args.y (length t.args.found.now) t.requires.1 t.requires.2 t.requires.0.numbers
 
 pub overflow_mul-k : goal.overflow_mul-k
-overflow_mul-k c = omega (arith, inside c.before.before.before.before, c.well_formed)
+overflow_mul-k c = omega (arith, inside (goal.at.overflow_mul-k c).Start, c.well_formed)
 
 pub overflow_add-k : goal.overflow_add-k
-overflow_add-k c = omega (arith, inside c.before.before.before.before, c.well_formed)
+overflow_add-k c = omega (arith, inside (goal.at.overflow_add-k c).Start, c.well_formed)
 
 pub offset_bounds-found-y : goal.offset_bounds-found-y
-offset_bounds-found-y c = omega (arith, inside c.before.before.before.before, c.well_formed)
+offset_bounds-found-y c = omega (arith, inside (goal.at.offset_bounds-found-y c).Start, c.well_formed)
 
 pub bounds-found-y : goal.bounds-found-y
-bounds-found-y c = inside c.before.before.before.before.before
+bounds-found-y c = inside (goal.at.bounds-found-y c).Start
 
 pub overflow_cast-k : goal.overflow_cast-k
 overflow_cast-k c = let a = c.args in omega (arith, c.shared_slice_known-3-1.given (a.y * a.w + a.x))
@@ -49,7 +41,7 @@ returns-then-k-count c =
     let a = c.args in (
       λ rs n m.
           c.add_cells.ensures.made
-          ∙ with_region a.o (find c.before.before.before.before.before.before.before.before.before.before) rs a.row a.y a.x (so_far c.before.before.before.before.before.before.before.before.before.before) _ (number_at (find c.before.before.before.before.before.before.before.before.before.before) rs a.w a.h a.layer.now a.found.now a.x a.y c.requires.1 c.requires.2 c.requires.5 m) (omega (arith, n, c.if-k-count.true)),
+          ∙ with_region a.o (frame_of grid (canvas c.args.w c.args.h c.args.layer.now) c.args.w c.args.h) rs a.row a.y a.x (row_of c.args.s c.args.plane.now c.args.row) _ (number_at (frame_of grid (canvas c.args.w c.args.h c.args.layer.now) c.args.w c.args.h) rs a.w a.h a.layer.now a.found.now a.x a.y c.requires.1 c.requires.2 c.requires.5 m) (omega (arith, n, c.if-k-count.true)),
       c.add_cells.ensures.1,
     )
 
@@ -62,6 +54,6 @@ returns c =
     let a = c.args in (
       λ rs n m.
           ap refused c.why_none.ensures
-          ∙ no_region_lem a.o (find c.before.before.before.before.before.before.before) rs a.row a.y a.x (so_far c.before.before.before.before.before.before.before) _ (number_at (find c.before.before.before.before.before.before.before) rs a.w a.h a.layer.now a.found.now a.x a.y c.requires.1 c.requires.2 c.requires.5 m) (omega (arith, n, c.if-k-count.false)),
+          ∙ no_region_lem a.o (frame_of grid (canvas c.args.w c.args.h c.args.layer.now) c.args.w c.args.h) rs a.row a.y a.x (row_of c.args.s c.args.plane.now c.args.row) _ (number_at (frame_of grid (canvas c.args.w c.args.h c.args.layer.now) c.args.w c.args.h) rs a.w a.h a.layer.now a.found.now a.x a.y c.requires.1 c.requires.2 c.requires.5 m) (omega (arith, n, c.if-k-count.false)),
       (tt, kept_refl a.plane.now a.row),
     )

@@ -1,9 +1,8 @@
 -- `step::add_frames` meets its contract.
 use mathlib.Core.Path.{◌≡◌, subst}
 use native.Mathlib.Omega.{arith}
-use Rattle.lists.specs.Picture.{Picture, canvas}
+use Rattle.lists.specs.Picture.{canvas}
 use Rattle.cells.proofs.PlaneLaws.{kept-fits}
-use Rattle.regions.specs.Regions.{Finder}
 use Rattle.walks.specs.Frame.{frame_of}
 use Rattle.walks.specs.Kinds.{grid}
 use Rattle.plane_cells.specs.Made.{RowFit, RowFits}
@@ -12,16 +11,10 @@ use Rattle.plane_cells.specs.declared.RowMade.TheVariants.{Cells}
 use Rattle.plane_cells.specs.declared.RowSofar.{RowSofar}
 use Rattle.step.proofs.FramesLaws.{frames_out, no_frames, frames_added}
 use Rattle.step.proofs.add_frames.Goals as goal
-use Rattle.step.proofs.add_frames.Tie as tie
-
-abbrev picture : tie.Start → Picture
-picture t = canvas t.args.w t.args.h t.args.layer.now
-
-abbrev find : tie.Start → Finder
-find t = frame_of grid (picture t) t.args.w t.args.h
+use Rattle.step.proofs.add_frames.Goals.{After-make_row}
 
 -- the row's cells fit
-fits : (m : tie.After-make_row) {t : RowSofar} → m.make-row.result ≡ Cells t → RowFit t (start m).args.s.rows
+fits : (m : After-make_row) {t : RowSofar} → m.make_row.result ≡ Cells t → RowFit t m.args.s.rows
 fits m z = subst (λ (r : RowMade). RowFits r m.args.s.rows) z m.make_row.ensures.fits
 
 pub make_row-requires : goal.make_row-requires
@@ -32,14 +25,14 @@ pub returns-then-n-eq0 : goal.returns-then-n-eq0
 returns-then-n-eq0 c =
     let a = c.args in
     let k = c.make_row.ensures.before in (
-      λ rs n q. no_frames a.o (find c.before.before.before.before.before.before.before.before.before.before.before.before) rs (picture c.before.before.before.before.before.before.before.before.before.before.before.before) a.w a.y a.s a.plane.now _ _ (c.make_row.ensures.made rs n q) _ c.in-Cells.is c.requires.2 k c.if-n-eq0.true,
+      λ rs n q. no_frames a.o (frame_of grid ((canvas c.args.w c.args.h c.args.layer.now)) c.args.w c.args.h) rs (canvas c.args.w c.args.h c.args.layer.now) a.w a.y a.s a.plane.now _ _ (c.make_row.ensures.made rs n q) _ c.in-Cells.is c.requires.2 k c.if-n-eq0.true,
       record { plane = kept-fits a.plane.now _ a.s.rows k c.make_row.auto.plane c.requires.2.plane; width = c.requires.2.width },
     )
 
 pub end_row-requires : goal.end_row-requires
 end_row-requires c =
     let a = c.args in
-    let f = fits c.before.before.before.before.before.before.before.before c.in-Cells.is in (
+    let f = fits (goal.at.end_row-requires c).After-make_row c.in-Cells.is in (
       kept-fits a.plane.now _ a.s.rows c.make_row.ensures.before c.make_row.auto.plane c.requires.2.plane,
       f.low (omega (arith, c.if-n-eq0.false)),
       f.few,
@@ -48,11 +41,11 @@ end_row-requires c =
 pub returns-else-n-eq0 : goal.returns-else-n-eq0
 returns-else-n-eq0 c =
     let a = c.args in (
-      λ rs n q. frames_added a.o (find c.before.before.before.before.before.before.before.before.before.before.before.before.before.before.before.before) rs (picture c.before.before.before.before.before.before.before.before.before.before.before.before.before.before.before.before) a.w a.y a.s a.plane.now _ _ (c.make_row.ensures.made rs n q) _ c.in-Cells.is c.requires.2 c.make_row.ensures.before c.if-n-eq0.false _ c.end_row.ensures.rows,
-      record { plane = c.end_row.ensures.fits; width = (fits c.before.before.before.before.before.before.before.before.before.before.before c.in-Cells.is).few },
+      λ rs n q. frames_added a.o (frame_of grid ((canvas c.args.w c.args.h c.args.layer.now)) c.args.w c.args.h) rs (canvas c.args.w c.args.h c.args.layer.now) a.w a.y a.s a.plane.now _ _ (c.make_row.ensures.made rs n q) _ c.in-Cells.is c.requires.2 c.make_row.ensures.before c.if-n-eq0.false _ c.end_row.ensures.rows,
+      record { plane = c.end_row.ensures.fits; width = (fits (goal.at.returns-else-n-eq0 c).After-make_row c.in-Cells.is).few },
     )
 
 pub returns-in-NoCells : goal.returns-in-NoCells
 returns-in-NoCells c =
     let a = c.args in
-    (λ rs n q. frames_out a.o (find c.before.before.before.before.before.before.before.before.before.before.before) rs (picture c.before.before.before.before.before.before.before.before.before.before.before) a.w a.y a.s a.plane.now _ _ (c.make_row.ensures.made rs n q) _ c.in-NoCells.is, tt)
+    (λ rs n q. frames_out a.o (frame_of grid ((canvas c.args.w c.args.h c.args.layer.now)) c.args.w c.args.h) rs (canvas c.args.w c.args.h c.args.layer.now) a.w a.y a.s a.plane.now _ _ (c.make_row.ensures.made rs n q) _ c.in-NoCells.is, tt)

@@ -1,18 +1,10 @@
 -- `step::add_grid_row` meets its contract.
 use mathlib.Core.Path.{◌∙◌}
-use Rattle.lists.specs.Picture.{Picture, canvas}
-use Rattle.regions.specs.Regions.{Finder}
+use Rattle.lists.specs.Picture.{canvas}
 use Rattle.walks.specs.Frame.{frame_of}
 use Rattle.walks.specs.Kinds.{grid}
 use Rattle.step.proofs.RowsLaws.{rows_fit, main_out, below_out, lines_added}
 use Rattle.step.proofs.add_grid_row.Goals as goal
-use Rattle.step.proofs.add_grid_row.Tie as tie
-
-abbrev picture : tie.Start → Picture
-picture t = canvas t.args.w t.args.h t.args.layer.now
-
-abbrev find : tie.Start → Finder
-find t = frame_of grid (picture t) t.args.w t.args.h
 
 pub add_line_row-requires : goal.add_line_row-requires
 add_line_row-requires c = c.requires.2
@@ -20,7 +12,7 @@ add_line_row-requires c = c.requires.2
 pub returns-in-NoRows : goal.returns-in-NoRows
 returns-in-NoRows c =
     let a = c.args in
-    (λ rs n m. main_out a.o (find c.before.before.before.before.before.before.before.before.before.before.before.before) rs (picture c.before.before.before.before.before.before.before.before.before.before.before.before) a.w a.y a.s a.plane.now _ _ c.add_line_row.ensures.made _ c.in-NoRows.is, tt)
+    (λ rs n m. main_out a.o (frame_of grid ((canvas c.args.w c.args.h c.args.layer.now)) c.args.w c.args.h) rs (canvas c.args.w c.args.h c.args.layer.now) a.w a.y a.s a.plane.now _ _ c.add_line_row.ensures.made _ c.in-NoRows.is, tt)
 
 pub add_line_row-requires-2 : goal.add_line_row-requires-2
 add_line_row-requires-2 c = rows_fit c.in-Sofar.is c.add_line_row.ensures.fits
@@ -28,7 +20,7 @@ add_line_row-requires-2 c = rows_fit c.in-Sofar.is c.add_line_row.ensures.fits
 pub returns-in-NoRows-add_line_row : goal.returns-in-NoRows-add_line_row
 returns-in-NoRows-add_line_row c =
     let a = c.args in
-    (λ rs n m. below_out a.o (find c.before.before.before.before.before.before.before.before.before.before.before.before.before.before.before.before.before.before.before.before) rs (picture c.before.before.before.before.before.before.before.before.before.before.before.before.before.before.before.before.before.before.before.before) a.w a.y a.s a.plane.now _ _ c.add_line_row.ensures.made _ c.in-Sofar.is _ c.is_at.ensures _ _ c.add_line_row-2.ensures.made _ c.in-NoRows-add_line_row.is, tt)
+    (λ rs n m. below_out a.o (frame_of grid ((canvas c.args.w c.args.h c.args.layer.now)) c.args.w c.args.h) rs (canvas c.args.w c.args.h c.args.layer.now) a.w a.y a.s a.plane.now _ _ c.add_line_row.ensures.made _ c.in-Sofar.is _ c.is_at.ensures _ _ c.add_line_row-2.ensures.made _ c.in-NoRows-add_line_row.is, tt)
 
 pub add_frames-requires : goal.add_frames-requires
 add_frames-requires c =
@@ -38,6 +30,6 @@ pub returns : goal.returns
 returns c =
     let a = c.args in (
       λ rs n m. c.add_frames.ensures.made rs n m
-          ∙ lines_added a.o (find c.before.before.before.before.before.before.before.before.before.before.before.before.before.before.before.before.before.before.before.before.before.before.before.before) rs (picture c.before.before.before.before.before.before.before.before.before.before.before.before.before.before.before.before.before.before.before.before.before.before.before.before) a.w a.y a.s a.plane.now _ _ c.add_line_row.ensures.made _ c.in-Sofar.is _ c.is_at.ensures _ _ c.add_line_row-2.ensures.made _ c.in-Sofar-add_line_row.is,
+          ∙ lines_added a.o (frame_of grid ((canvas c.args.w c.args.h c.args.layer.now)) c.args.w c.args.h) rs (canvas c.args.w c.args.h c.args.layer.now) a.w a.y a.s a.plane.now _ _ c.add_line_row.ensures.made _ c.in-Sofar.is _ c.is_at.ensures _ _ c.add_line_row-2.ensures.made _ c.in-Sofar-add_line_row.is,
       c.add_frames.ensures.fits,
     )

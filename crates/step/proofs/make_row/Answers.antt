@@ -5,14 +5,14 @@ use lib.ListN.{length}
 use Rattle.lists.proofs.PictureLaws.{row_fits}
 use Rattle.step.proofs.RowLaws.{filling_start, filling_more, filling_out, filling_end}
 use Rattle.step.proofs.make_row.Goals as goal
-use Rattle.step.proofs.make_row.Tie as tie
+use Rattle.step.proofs.make_row.Goals.{Start}
 
 -- row y lies in the layer
-row_in : (t : tie.Start goal.the-invariant-loop-x goal.the-decreases-loop-x) → t.args.y * t.args.w + t.args.w ≤ length t.args.layer.now
+row_in : (t : Start) → t.args.y * t.args.w + t.args.w ≤ length t.args.layer.now
 row_in t = row_fits t.args.h t.args.w t.args.y (length t.args.layer.now) t.requires.1 t.requires.0.layer.size
 
 pub corner_in_row-x-requires : goal.corner_in_row-x-requires
-corner_in_row-x-requires c = (omega arith, row_in c.before.before.before.before)
+corner_in_row-x-requires c = (omega arith, row_in (goal.at.corner_in_row-x-requires c).Start)
 
 pub loop-x-init : goal.loop-x-init
 loop-x-init c = filling_start _ _ _ _ _ _ _ _ _ _ _ _ c.requires.1 c.corner_in_row-x.ensures
@@ -30,7 +30,7 @@ returns-in-NoCells c =
 
 pub corner_in_row-x-requires-in-loop-x : goal.corner_in_row-x-requires-in-loop-x
 corner_in_row-x-requires-in-loop-x c =
-    (omega (arith, c.loop-x-test.true), row_in c.before.before.before.before.before.before.before.before.before.before.before.before.before.before)
+    (omega (arith, c.loop-x-test.true), row_in (goal.at.corner_in_row-x-requires-in-loop-x c).Start)
 
 pub loop-x-smaller : goal.loop-x-smaller
 loop-x-smaller c = omega (arith, c.loop-x-test.true, c.corner_in_row-x-in-loop-x.ensures.from)

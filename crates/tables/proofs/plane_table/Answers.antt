@@ -1,15 +1,9 @@
 -- `tables::plane_table` meets its contract.
 use native.Mathlib.Omega.{arith}
 use Rattle.cells.specs.Spans.{text_in}
-use Rattle.record.specs.Policy.{Text}
 use Rattle.tables.specs.NamedTable.{name_of}
 use Rattle.tables.proofs.NameLaws.{named_table_lem}
 use Rattle.tables.proofs.plane_table.Goals as goal
-use Rattle.tables.proofs.plane_table.Tie as tie
-
--- the name
-abbrev name : tie.Start → Text
-name s = name_of s.args.named (text_in s.args.bytes.now s.args.spans.now s.args.count)
 
 pub add_name-requires : goal.add_name-requires
 add_name-requires c =
@@ -18,8 +12,8 @@ add_name-requires c =
 pub returns-in-Stands : goal.returns-in-Stands
 returns-in-Stands c =
     let a = c.add_name.ensures in
-    (named_table_lem _ a (rw c.in-Stands.is at (c.recognize.ensures.table (name c.before.before.before.before.before.before.before.before.before.before.before.before.before.before.before.before.before.before.before.before))), a.held)
+    (named_table_lem _ a (rw c.in-Stands.is at (c.recognize.ensures.table (name_of c.args.named (text_in c.args.bytes.now c.args.spans.now c.args.count)))), a.held)
 
 pub returns-in-NotRecognized : goal.returns-in-NotRecognized
 returns-in-NotRecognized c =
-    (rw c.in-NotRecognized.is at (c.recognize.ensures.table (name c.before.before.before.before.before.before.before.before.before.before.before.before.before.before.before.before)), tt)
+    (rw c.in-NotRecognized.is at (c.recognize.ensures.table (name_of c.args.named (text_in c.args.bytes.now c.args.spans.now c.args.count))), tt)

@@ -9,40 +9,40 @@ use Rattle.white_space.proofs.WhiteLaws.{dark_no_feed}
 use Rattle.text_lines.proofs.LineReading.{scan_start, scan_fits, scan_white, scan_dark, scan_feed, scan_stop, scan_end, found_in}
 use Rattle.text_lines.proofs.SeenLaws.{Told, told, feed_byte, none_left}
 use Rattle.text_lines.proofs.line_rest.Goals as goal
-use Rattle.text_lines.proofs.line_rest.Tie as tie
+use Rattle.text_lines.proofs.line_rest.Goals.{In-Text, In-White}
 
 pub loop-p-init : goal.loop-p-init
 loop-p-init c = scan_start _ _ c.requires
 
-text : (c : tie.In-Text goal.the-invariant-loop-p goal.the-decreases-loop-p) → Told (decode (drop c.loop-p.p c.args.s.now)) (Text c.e-1.given.0.0)
-text c = told _ _ (sym c.e-1.given.1 ∙ c.seen_at-e.ensures)
+text : (c : In-Text) → Told (decode (drop c.loop-p.p c.args.s.now)) (Text c.in-Text.n)
+text c = told _ _ (sym c.in-Text.is ∙ c.seen_at-e.ensures)
 
 pub overflow_add-p : goal.overflow_add-p
-overflow_add-p c = omega (arith, scan_fits c.loop-p.invariant (text c.before).0)
+overflow_add-p c = omega (arith, scan_fits c.loop-p.invariant (text c).0)
 
 pub overflow_add-k : goal.overflow_add-k
-overflow_add-k c = omega (arith, scan_fits c.loop-p.invariant (text c.before).0)
+overflow_add-k c = omega (arith, scan_fits c.loop-p.invariant (text c).0)
 
 pub loop-p-smaller-in-Text : goal.loop-p-smaller-in-Text
-loop-p-smaller-in-Text c = omega (arith, scan_fits c.loop-p.invariant (text c.before).0)
+loop-p-smaller-in-Text c = omega (arith, scan_fits c.loop-p.invariant (text c).0)
 
 pub loop-p-preserved-in-Text : goal.loop-p-preserved-in-Text
-loop-p-preserved-in-Text c = scan_dark c.loop-p.invariant (text c.before).0 (dark_no_feed (text c.before).1) (text c.before).1
+loop-p-preserved-in-Text c = scan_dark c.loop-p.invariant (text c).0 (dark_no_feed (text c).1) (text c).1
 
-white : (c : tie.In-White goal.the-invariant-loop-p goal.the-decreases-loop-p) → Told (decode (drop c.loop-p.p c.args.s.now)) (White c.e-in-White-1.given.0.0)
-white c = told _ _ (sym c.e-in-White-1.given.1 ∙ c.seen_at-e.ensures)
+white : (c : In-White) → Told (decode (drop c.loop-p.p c.args.s.now)) (White c.in-White.n)
+white c = told _ _ (sym c.in-White.is ∙ c.seen_at-e.ensures)
 
 pub overflow_add-p-in-White : goal.overflow_add-p-in-White
-overflow_add-p-in-White c = omega (arith, scan_fits c.loop-p.invariant (white c.before).0)
+overflow_add-p-in-White c = omega (arith, scan_fits c.loop-p.invariant (white c).0)
 
 pub overflow_add-k-in-White : goal.overflow_add-k-in-White
-overflow_add-k-in-White c = omega (arith, scan_fits c.loop-p.invariant (white c.before).0)
+overflow_add-k-in-White c = omega (arith, scan_fits c.loop-p.invariant (white c).0)
 
 pub loop-p-smaller : goal.loop-p-smaller
-loop-p-smaller c = omega (arith, scan_fits c.loop-p.invariant (white c.before).0)
+loop-p-smaller c = omega (arith, scan_fits c.loop-p.invariant (white c).0)
 
 pub loop-p-preserved : goal.loop-p-preserved
-loop-p-preserved c = scan_white c.loop-p.invariant (white c.before).0 (white c.before).1.0 (white c.before).1.1
+loop-p-preserved c = scan_white c.loop-p.invariant (white c).0 (white c).1.0 (white c).1.1
 
 pub returns-in-LineFeed : goal.returns-in-LineFeed
 returns-in-LineFeed c =

@@ -9,29 +9,29 @@ use native.Mathlib.Omega.{arith}
 use borrow.Author.Rules.{rules}
 use lib.ListN.{drop}
 use Rattle.text_lines.proofs.skip_white.Goals as goal
-use Rattle.text_lines.proofs.skip_white.Tie as tie
+use Rattle.text_lines.proofs.skip_white.Goals.{In-Char}
 
 pub loop-p-init : goal.loop-p-init
 loop-p-init c = record { along = search rules; inside = search rules; led = refl; checks = refl }
 
 -- in the arm of a code point
-char : (c : tie.In-Char goal.the-invariant-loop-p goal.the-decreases-loop-p) → decode (drop c.loop-p.p c.args.s.now) ≡ Char c.d-1.given.0.0 c.d-1.given.0.1.0
-char c = sym c.next-d.ensures ∙ c.d-1.given.1
+char : (c : In-Char) → decode (drop c.loop-p.p c.args.s.now) ≡ Char c.in-Char.c c.in-Char.n
+char c = sym c.next-d.ensures ∙ c.in-Char.is
 
 pub returns-then-c-eq10 : goal.returns-then-c-eq10
-returns-then-c-eq10 c = (search rules, search rules, skip_feed c.loop-p.invariant (char c.before.before) c.if-c-eq10.true, c.loop-p.invariant.checks)
+returns-then-c-eq10 c = (search rules, search rules, skip_feed c.loop-p.invariant (char (goal.at.returns-then-c-eq10 c).In-Char) c.if-c-eq10.true, c.loop-p.invariant.checks)
 
 pub overflow_add-p : goal.overflow_add-p
-overflow_add-p c = omega (arith, skip_fits c.loop-p.invariant (char c.before.before.before.before))
+overflow_add-p c = omega (arith, skip_fits c.loop-p.invariant (char (goal.at.overflow_add-p c).In-Char))
 
 pub loop-p-smaller : goal.loop-p-smaller
-loop-p-smaller c = omega (arith, skip_fits c.loop-p.invariant (char c.before.before.before.before))
+loop-p-smaller c = omega (arith, skip_fits c.loop-p.invariant (char (goal.at.loop-p-smaller c).In-Char))
 
 pub loop-p-preserved : goal.loop-p-preserved
-loop-p-preserved c = skip_more c.loop-p.invariant (char c.before.before.before.before) c.if-c-eq10.false (sym c.white_space.ensures ∙ c.if-white_space.true)
+loop-p-preserved c = skip_more c.loop-p.invariant (char (goal.at.loop-p-preserved c).In-Char) c.if-c-eq10.false (sym c.white_space.ensures ∙ c.if-white_space.true)
 
 pub returns-else-white_space : goal.returns-else-white_space
-returns-else-white_space c = (search rules, search rules, skip_dark c.loop-p.invariant (char c.before.before.before.before) c.if-c-eq10.false (sym c.white_space.ensures ∙ c.if-white_space.false), c.loop-p.invariant.checks)
+returns-else-white_space c = (search rules, search rules, skip_dark c.loop-p.invariant (char (goal.at.returns-else-white_space c).In-Char) c.if-c-eq10.false (sym c.white_space.ensures ∙ c.if-white_space.false), c.loop-p.invariant.checks)
 
 pub returns-in-IllFormed : goal.returns-in-IllFormed
 returns-in-IllFormed c =

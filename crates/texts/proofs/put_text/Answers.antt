@@ -10,50 +10,50 @@ use Rattle.texts.specs.Spans.{PutAt}
 use Rattle.texts.proofs.TextPutting.{Joining, joining_of, joining_start, joining_part, joining_room, joining_past, joining_more, joining_end}
 use native.Mathlib.Omega.{arith}
 use Rattle.texts.proofs.put_text.Goals as goal
-use Rattle.texts.proofs.put_text.Tie as tie
+use Rattle.texts.proofs.put_text.Goals.{After-rect_at-r, At-loop-y}
 
-inside : (c : tie.After-rect_at-r goal.the-invariant-loop-y goal.the-decreases-loop-y) → RectIn c.args.w c.args.h c.rect_at-r.result
+inside : (c : After-rect_at-r) → RectIn c.args.w c.args.h c.rect_at-r.result
 inside c = subst (RectIn c.args.w c.args.h) (sym c.rect_at-r.ensures) c.requires.2
 
 pub overflow_add-from : goal.overflow_add-from
-overflow_add-from c = omega (arith, (inside c.before.before).wide)
+overflow_add-from c = omega (arith, (inside (goal.at.overflow_add-from c).After-rect_at-r).wide)
 
 pub overflow_sub-to : goal.overflow_sub-to
-overflow_sub-to c = omega (arith, (inside c.before.before.before).wide)
+overflow_sub-to c = omega (arith, (inside (goal.at.overflow_sub-to c).After-rect_at-r).wide)
 
 pub overflow_sub-bottom : goal.overflow_sub-bottom
-overflow_sub-bottom c = omega (arith, (inside c.before.before.before.before).tall)
+overflow_sub-bottom c = omega (arith, (inside (goal.at.overflow_sub-bottom c).After-rect_at-r).tall)
 
 pub overflow_add-y : goal.overflow_add-y
-overflow_add-y c = omega (arith, (inside c.before.before.before.before.before).tall)
+overflow_add-y c = omega (arith, (inside (goal.at.overflow_add-y c).After-rect_at-r).tall)
 
 pub loop-y-init : goal.loop-y-init
 loop-y-init c =
     let p = c.requires in
-    joining_of c.rect_at-r.ensures (joining_start p.0 (inside c.before.before.before.before.before) p.3 p.4)
+    joining_of c.rect_at-r.ensures (joining_start p.0 (inside (goal.at.loop-y-init c).After-rect_at-r) p.3 p.4)
 
 -- the invariant, of the rect that was read
-joining : (c : tie.At-loop-y goal.the-invariant-loop-y goal.the-decreases-loop-y) → (let a = c.args in let r = c.rect_at-r.result in Joining a.w a.h a.text.now r (r.bottom - 1) a.bytes.now a.start c.loop-y.bytes c.loop-y.y c.loop-y.at)
+joining : (c : At-loop-y) → (let a = c.args in let r = c.rect_at-r.result in Joining a.w a.h a.text.now r (r.bottom - 1) a.bytes.now a.start c.loop-y.bytes c.loop-y.y c.loop-y.at)
 joining c = joining_of (sym c.rect_at-r.ensures) c.loop-y.invariant
 
 pub overflow_mul-y : goal.overflow_mul-y
-overflow_mul-y c = omega (arith, joining_part (joining c.before.before) c.loop-y-test.true)
+overflow_mul-y c = omega (arith, joining_part (joining (goal.at.overflow_mul-y c).At-loop-y) c.loop-y-test.true)
 
 pub overflow_add-y-in-loop-y : goal.overflow_add-y-in-loop-y
-overflow_add-y-in-loop-y c = omega (arith, joining_part (joining c.before.before) c.loop-y-test.true)
+overflow_add-y-in-loop-y c = omega (arith, joining_part (joining (goal.at.overflow_add-y-in-loop-y c).At-loop-y) c.loop-y-test.true)
 
 pub overflow_mul-y-in-loop-y : goal.overflow_mul-y-in-loop-y
-overflow_mul-y-in-loop-y c = omega (arith, joining_part (joining c.before.before) c.loop-y-test.true)
+overflow_mul-y-in-loop-y c = omega (arith, joining_part (joining (goal.at.overflow_mul-y-in-loop-y c).At-loop-y) c.loop-y-test.true)
 
 pub overflow_add-y-in-loop-y-2 : goal.overflow_add-y-in-loop-y-2
-overflow_add-y-in-loop-y-2 c = omega (arith, joining_part (joining c.before.before) c.loop-y-test.true)
+overflow_add-y-in-loop-y-2 c = omega (arith, joining_part (joining (goal.at.overflow_add-y-in-loop-y-2 c).At-loop-y) c.loop-y-test.true)
 
 pub trim_codes_part-part-requires : goal.trim_codes_part-part-requires
-trim_codes_part-part-requires c = joining_part (joining c.before.before) c.loop-y-test.true
+trim_codes_part-part-requires c = joining_part (joining (goal.at.trim_codes_part-part-requires c).At-loop-y) c.loop-y-test.true
 
 pub put_next-at-requires : goal.put_next-at-requires
 put_next-at-requires c =
-    let i = joining c.before.before.before.before in
+    let i = joining (goal.at.put_next-at-requires c).At-loop-y in
     let j = joining_room i c.loop-y-test.true c.trim_codes_part-part.ensures in
     (omega (arith, j), omega (arith, j), i.room, j.4)
 
@@ -61,12 +61,12 @@ pub returns-then-at-gt-TEXT_BYTES : goal.returns-then-at-gt-TEXT_BYTES
 returns-then-at-gt-TEXT_BYTES c =
     let a = c.args in
     subst (λ (q : Rect). PutAt (text_of (canvas a.w a.h a.text.now) q) a.bytes.now c.put_next-at.new.bytes a.start (text_bytes + 1)) c.rect_at-r.ensures
-    (joining_past (joining c.before.before.before.before.before.before.before.before) c.loop-y-test.true c.trim_codes_part-part.ensures c.put_next-at.ensures c.if-at-gt-TEXT_BYTES.true)
+    (joining_past (joining (goal.at.returns-then-at-gt-TEXT_BYTES c).At-loop-y) c.loop-y-test.true c.trim_codes_part-part.ensures c.put_next-at.ensures c.if-at-gt-TEXT_BYTES.true)
 
 pub loop-y-preserved : goal.loop-y-preserved
 loop-y-preserved c =
     joining_of c.rect_at-r.ensures
-    (joining_more (joining c.before.before.before.before.before.before.before.before) c.loop-y-test.true c.trim_codes_part-part.ensures c.put_next-at.ensures c.if-at-gt-TEXT_BYTES.false c.put_next-at.auto.bytes)
+    (joining_more (joining (goal.at.loop-y-preserved c).At-loop-y) c.loop-y-test.true c.trim_codes_part-part.ensures c.put_next-at.ensures c.if-at-gt-TEXT_BYTES.false c.put_next-at.auto.bytes)
 
 pub returns : goal.returns
 returns c = joining_end c.loop-y.invariant c.loop-y-test.false

@@ -109,4 +109,4 @@ unfolding thin_of one_of
 returns-in-9580 c = rw c.in-9580.is
 
 pub returns-in_default : goal.returns-in_default
-returns-in_default c = thin_other _ c.in_default.rest
+returns-in_default c = thin_other _ c.in_default.in_default-own.rest

@@ -1,17 +1,10 @@
 -- `utils::split_text` meets its contract.
-use mathlib.Core.List.{List}
 use mathlib.Core.Path.{refl, sym}
-use Prim.Native.Nat.{ℕ}
 use native.Mathlib.Omega.{arith}
 use borrow.Author.Rules.{rules}
 use Rattle.values.proofs.ValueLaws.{part_ordered, bare_inside, part_sizes}
 use Rattle.utils.proofs.Answers.{answer_own, answer-short, answer_rewritten}
 use Rattle.utils.proofs.split_text.Goals as goal
-use Rattle.utils.proofs.split_text.Tie as tie
-
--- behind the search for the first part in emphasis
-abbrev scratch : tie.After-first_marked-f → List ℕ
-scratch c = c.args.scratch.now
 
 pub slice_bounds-periods_of-count : goal.slice_bounds-periods_of-count
 slice_bounds-periods_of-count c = part_ordered c.first_marked-f.ensures
@@ -54,7 +47,7 @@ measure-n-requires c = (part_sizes c.first_marked-f.ensures c.if-f.true, c.perio
 
 pub returns-then-scratch-n : goal.returns-then-scratch-n
 returns-then-scratch-n c =
-    answer-short c.first_marked-f.ensures (scratch c.before.before.before.before.before.before.before.before.before.before.before) c.if-f.true c.measure-n.ensures c.if-scratch-n.true
+    answer-short c.first_marked-f.ensures c.args.scratch.now c.if-f.true c.measure-n.ensures c.if-scratch-n.true
 
 pub slice_bounds-rewrite-count : goal.slice_bounds-rewrite-count
 slice_bounds-rewrite-count c = part_ordered c.first_marked-f.ensures
@@ -87,7 +80,7 @@ shape_of-scratch-then-f c = c.rewrite.auto.out
 
 pub returns-then-f : goal.returns-then-f
 returns-then-f c =
-    answer_rewritten c.first_marked-f.ensures (scratch c.before.before.before.before.before.before.before.before.before.before.before.before.before.before.before.before.before.before) c.if-f.true c.measure-n.ensures c.if-scratch-n.false c.rewrite.ensures.out_after
+    answer_rewritten c.first_marked-f.ensures c.args.scratch.now c.if-f.true c.measure-n.ensures c.if-scratch-n.false c.rewrite.ensures.out_after
 
 pub returns : goal.returns
-returns c = answer_own c.first_marked-f.ensures (scratch c.before.before) c.if-f.false
+returns c = answer_own c.first_marked-f.ensures c.args.scratch.now c.if-f.false

@@ -14,34 +14,27 @@ use Rattle.walks.proofs.LineLaws.{place_zero, place-next, reach_next, reach_in}
 use native.Mathlib.Omega.{arith}
 use borrow.Author.Rules.{rules}
 use Rattle.walks.proofs.walk_line.Goals as goal
-use Rattle.walks.proofs.walk_line.Tie as tie
+use Rattle.walks.proofs.walk_line.Goals.{After-next-p}
 
 pub loop-k-init : goal.loop-k-init
 loop-k-init c =
     let a = c.args in
     (search rules, (place_zero a.back a.at a.step, λ ss aa e. (rw sub-zero, e.line)))
 
-abbrev line : tie.Start goal.the-invariant-loop-k goal.the-decreases-loop-k → ℕ → ℕ
-line t = line_of t.args.layer.now t.args.back t.args.at t.args.step
-
 -- a turn stands one step on
-here : (c : tie.After-next-p goal.the-invariant-loop-k goal.the-decreases-loop-k) → c.next-p.result ≡ place c.args.back c.args.at c.args.step (c.loop-k.k + 1)
+here : (c : After-next-p) → c.next-p.result ≡ place c.args.back c.args.at c.args.step (c.loop-k.k + 1)
 here c =
     let a = c.args in
     let l = c.loop-k in
     c.next-p.ensures ∙ ap (λ (q : ℕ). next_of a.back q a.step) l.invariant.1.0 ∙ place-next a.back a.at a.step l.k
 
-inside : (c : tie.After-next-p goal.the-invariant-loop-k goal.the-decreases-loop-k) → c.next-p.result < length c.args.layer.now
+inside : (c : After-next-p) → c.next-p.result < length c.args.layer.now
 inside c =
     let a = c.args in
     let l = c.loop-k in
     subst (λ (n : ℕ). n < length a.layer.now) (sym (here c)) (reach_in a.back a.at a.step a.count (length a.layer.now) (l.k + 1) c.requires (omega (arith, c.loop-k-test.true)))
 
--- the turn's character
-abbrev code : tie.After-next-p goal.the-invariant-loop-k goal.the-decreases-loop-k → ℕ
-code c = get_or c.args.layer.now c.next-p.result 0
-
-stands : (c : tie.After-next-p goal.the-invariant-loop-k goal.the-decreases-loop-k) → line c.before.before.before.before (c.loop-k.k + 1) ≡ code c
+stands : (c : After-next-p) → (line_of c.args.layer.now c.args.back c.args.at c.args.step) (c.loop-k.k + 1) ≡ (get_or c.args.layer.now c.next-p.result 0)
 stands c = ap (λ (q : ℕ). get_or c.args.layer.now q 0) (sym (here c))
 
 -- what the answer of a test told
@@ -49,14 +42,14 @@ told : {h o r t : Bool} → h ≡ o → r ≡ h → r ≡ t → o ≡ t
 told m e q = sym m ∙ sym e ∙ q
 
 -- a turn whose character is passed, and kept
-on : (c : tie.After-next-p goal.the-invariant-loop-k goal.the-decreases-loop-k) (kept : ℕ) → line c.before.before.before.before (c.loop-k.k + 1) ≡ kept
+on : (c : After-next-p) (kept : ℕ) → (line_of c.args.layer.now c.args.back c.args.at c.args.step) (c.loop-k.k + 1) ≡ kept
     → ((s a : List ℕ) → Sought c.args.c s a → Passes s a kept)
     → goal.the-invariant-loop-k c.args.layer.now c.args.back c.args.at c.args.step c.args.count c.args.c 0 0 0 c.next-p.result (c.loop-k.k + 1) kept
 on c kept q p =
     let l = c.loop-k in
     let h = c.loop-k-test.true in (
       omega (arith, h),
-      (here c, λ ss aa e. (sym (turn_on (line c.before.before.before.before) ss aa l.k c.args.count kept h q (p ss aa e)) ∙ (l.invariant.1.1 ss aa e).0, p ss aa e)),
+      (here c, λ ss aa e. (sym (turn_on (line_of c.args.layer.now c.args.back c.args.at c.args.step) ss aa l.k c.args.count kept h q (p ss aa e)) ∙ (l.invariant.1.1 ss aa e).0, p ss aa e)),
     )
 
 pub next-p-requires : goal.next-p-requires
@@ -66,36 +59,36 @@ next-p-requires c =
     (reach_next a.back a.at a.step a.count (length a.layer.now) c.loop-k.k c.requires c.loop-k-test.true c.well_formed.0.0)
 
 pub offset_bounds-layer-p : goal.offset_bounds-layer-p
-offset_bounds-layer-p c = omega (arith, inside c.before, c.well_formed.0.1)
+offset_bounds-layer-p c = omega (arith, inside c, c.well_formed.0.1)
 
 pub bounds-layer-p : goal.bounds-layer-p
-bounds-layer-p c = inside c.before.before
+bounds-layer-p c = inside (goal.at.bounds-layer-p c).After-next-p
 
 pub returns-then-holds : goal.returns-then-holds
 returns-then-holds c ss aa e =
     let l = c.loop-k in
-    sym (turn_found (line c.before.before.before.before.before.before.before.before.before.before) ss aa l.k c.args.count (code c.before.before.before.before.before.before) c.loop-k-test.true (stands c.before.before.before.before.before.before) (told (e.ends (code c.before.before.before.before.before.before)) c.holds.ensures c.if-holds.true))
+    sym (turn_found (line_of c.args.layer.now c.args.back c.args.at c.args.step) ss aa l.k c.args.count (get_or c.args.layer.now c.next-p.result 0) c.loop-k-test.true (stands (goal.at.returns-then-holds c).After-next-p) (told (e.ends (get_or c.args.layer.now c.next-p.result 0)) c.holds.ensures c.if-holds.true))
     ∙ (l.invariant.1.1 ss aa e).0
 
 pub returns-then-not-holds : goal.returns-then-not-holds
 returns-then-not-holds c ss aa e =
     let l = c.loop-k in
-    sym (turn_barred (line c.before.before.before.before.before.before.before.before.before.before.before.before.before) ss aa l.k c.args.count (code c.before.before.before.before.before.before.before.before.before) c.loop-k-test.true (stands c.before.before.before.before.before.before.before.before.before) (told (e.ends (code c.before.before.before.before.before.before.before.before.before)) c.holds.ensures c.if-holds.false) (told (e.passes (code c.before.before.before.before.before.before.before.before.before)) c.holds-then-code-kept.ensures c.if-not-holds.true))
+    sym (turn_barred (line_of c.args.layer.now c.args.back c.args.at c.args.step) ss aa l.k c.args.count (get_or c.args.layer.now c.next-p.result 0) c.loop-k-test.true (stands (goal.at.returns-then-not-holds c).After-next-p) (told (e.ends (get_or c.args.layer.now c.next-p.result 0)) c.holds.ensures c.if-holds.false) (told (e.passes (get_or c.args.layer.now c.next-p.result 0)) c.holds-then-code-kept.ensures c.if-not-holds.true))
     ∙ (l.invariant.1.1 ss aa e).0
 
 pub loop-k-preserved-then-code-kept : goal.loop-k-preserved-then-code-kept
 loop-k-preserved-then-code-kept c =
-    on c.before.before.before.before.before.before.before.before.before (code c.before.before.before.before.before.before.before.before.before) (stands c.before.before.before.before.before.before.before.before.before)
-    (λ ss aa e. (told (e.ends (code c.before.before.before.before.before.before.before.before.before)) c.holds.ensures c.if-holds.false, told (e.passes (code c.before.before.before.before.before.before.before.before.before)) c.holds-then-code-kept.ensures c.if-not-holds.false))
+    on (goal.at.loop-k-preserved-then-code-kept c).After-next-p (get_or c.args.layer.now c.next-p.result 0) (stands (goal.at.loop-k-preserved-then-code-kept c).After-next-p)
+    (λ ss aa e. (told (e.ends (get_or c.args.layer.now c.next-p.result 0)) c.holds.ensures c.if-holds.false, told (e.passes (get_or c.args.layer.now c.next-p.result 0)) c.holds-then-code-kept.ensures c.if-not-holds.false))
 
 pub loop-k-preserved : goal.loop-k-preserved
 loop-k-preserved c =
     let l = c.loop-k in
-    on c.before.before.before l.auto (stands c.before.before.before ∙ c.if-code-kept.false) (λ ss aa e. (l.invariant.1.1 ss aa e).1)
+    on (goal.at.loop-k-preserved c).After-next-p l.auto (stands (goal.at.loop-k-preserved c).After-next-p ∙ c.if-code-kept.false) (λ ss aa e. (l.invariant.1.1 ss aa e).1)
 
 pub returns : goal.returns
 returns c ss aa e =
     let l = c.loop-k in
     let a = c.args in
     ap (λ (q : ℕ). refused (CharactersNotFound q)) e.first
-    ∙ sym (turn_end (line c.before.before.before.before) ss aa l.k a.count c.loop-k-test.false) ∙ (l.invariant.1.1 ss aa e).0
+    ∙ sym (turn_end (line_of c.args.layer.now c.args.back c.args.at c.args.step) ss aa l.k a.count c.loop-k-test.false) ∙ (l.invariant.1.1 ss aa e).0

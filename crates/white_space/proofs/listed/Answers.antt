@@ -44,7 +44,7 @@ pub returns-in_default-4 : goal.returns-in_default-4
 returns-in_default-4 c = none _ c.in_default-1.rest.1 (λ p q. omega arith) (λ p q. omega arith) (λ p q. omega arith)
 
 pub returns-in-9-to-13 : goal.returns-in-9-to-13
-returns-in-9-to-13 c = alone _ c.in-9-to-13.keys1
+returns-in-9-to-13 c = alone _ c.in-9-to-13.in-9-to-13-own.keys1
 
 pub returns-in-9-to-13-2 : goal.returns-in-9-to-13-2
 returns-in-9-to-13-2 c = sym (in_among spaces _ (inl (omega arith, omega arith)))
