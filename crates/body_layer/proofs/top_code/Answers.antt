@@ -21,4 +21,4 @@ returns-in-9532 c = rw c.in-9532.is
 
 pub returns-in_default : goal.returns-in_default
 unfolding top_of
-returns-in_default c = let r = c.in_default.rest in simp (ne_eqb _ _ r.0.0.0.1, ne_eqb _ _ r.0.0.1, ne_eqb _ _ r.0.1, ne_eqb _ _ r.1)
+returns-in_default c = let r = c.in_default.in_default-own.rest in simp (ne_eqb _ _ r.0.0.0.1, ne_eqb _ _ r.0.0.1, ne_eqb _ _ r.0.1, ne_eqb _ _ r.1)

@@ -21,4 +21,4 @@ returns-in-62 c = rw c.in-62.is
 
 pub returns-in_default : goal.returns-in_default
 unfolding by_letters same_text
-returns-in_default c = let r = c.in_default.rest in no_sign _ r.0.0.0.1 r.0.0.1 r.0.1 r.1
+returns-in_default c = let r = c.in_default.in_default-own.rest in no_sign _ r.0.0.0.1 r.0.0.1 r.0.1 r.1

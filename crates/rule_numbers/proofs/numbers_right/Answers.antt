@@ -14,13 +14,11 @@ count_behind-requires c = held-row c.requires.0 (c.args.n - 1) (omega arith)
 
 pub returns-then-m-gt0 : goal.returns-then-m-gt0
 returns-then-m-gt0 c =
-    let m = c.m-1.given in
-    rw (lt-ltb 0 m.0.0 c.if-m-gt0.true) at (right-told _ _ _ c.requires.1 _ (rw m.1 at c.count_behind.ensures))
+    rw (lt-ltb 0 c.in-Upto.m c.if-m-gt0.true) at (right-told _ _ _ c.requires.1 _ (rw c.in-Upto.is at c.count_behind.ensures))
 
 pub returns-else-m-gt0 : goal.returns-else-m-gt0
 returns-else-m-gt0 c =
-    let m = c.m-1.given in
-    rw (le-ltb 0 m.0.0 c.if-m-gt0.false) at (right-told _ _ _ c.requires.1 _ (rw m.1 at c.count_behind.ensures))
+    rw (le-ltb 0 c.in-Upto.m c.if-m-gt0.false) at (right-told _ _ _ c.requires.1 _ (rw c.in-Upto.is at c.count_behind.ensures))
 
 pub returns-in-NotCounted : goal.returns-in-NotCounted
 returns-in-NotCounted c =

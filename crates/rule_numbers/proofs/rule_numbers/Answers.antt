@@ -10,14 +10,12 @@ count_behind-requires c = held-column c.requires.0
 
 pub returns-then-m-gt0 : goal.returns-then-m-gt0
 returns-then-m-gt0 c =
-    let m = c.m-1.given in
-    rw (lt-ltb 0 m.0.0 c.if-m-gt0.true) at (left-told _ _ _ _ (rw m.1 at c.count_behind.ensures))
+    rw (lt-ltb 0 c.in-Upto.m c.if-m-gt0.true) at (left-told _ _ _ _ (rw c.in-Upto.is at c.count_behind.ensures))
 
 pub returns-else-m-gt0 : goal.returns-else-m-gt0
 returns-else-m-gt0 c =
-    let m = c.m-1.given in
     c.numbers_right.ensures
-    ∙ (rw (le-ltb 0 m.0.0 c.if-m-gt0.false) at (left-told _ _ _ _ (rw m.1 at c.count_behind.ensures)))
+    ∙ (rw (le-ltb 0 c.in-Upto.m c.if-m-gt0.false) at (left-told _ _ _ _ (rw c.in-Upto.is at c.count_behind.ensures)))
 
 pub returns-in-NotCounted : goal.returns-in-NotCounted
 returns-in-NotCounted c = left-refused _ _ _ _ (rw c.in-NotCounted.is at c.count_behind.ensures)

@@ -23,7 +23,7 @@ loop-i-preserved c =
     let e = c.thin_at in
     let l = c.loop-i in
     let h : l.i < length l.thins = omega (arith, c.loop-i-test.true, l.invariant.0.long, c.requires.thin) in (
-      turning_more l.invariant.0 _ c.loop-i-test.true e.auto.1.0 e.ensures,
+      turning_more l.invariant.0 _ c.loop-i-test.true e.auto.thins e.ensures,
       ap (λ (s : List ℕ). get_or s l.i 0) e.ensures ∙ get_or-set_same l.thins l.i (thin_of (get_or c.args.text.now l.i 0)) 0 h,
     )
 

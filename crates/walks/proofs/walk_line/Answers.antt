@@ -2,7 +2,8 @@
 use mathlib.Core.Path.{◌≡◌, sym, ap, ◌∙◌, subst}
 use mathlib.Core.Bool.{Bool}
 use mathlib.Core.List.{List}
-use Prim.Native.Nat.{ℕ, ◌+◌, ◌-◌, ◌<◌}
+use Prim.Native.Nat.{ℕ, ◌+◌, ◌-◌, ◌<◌, ◌≤◌}
+use Rattle.walks.specs.Walk.{walk_from, walk_of}
 use native.Mathlib.Nat.{sub-zero}
 use lib.ListN.{length, get_or}
 use Rattle.lists.specs.Answer.{refused}
@@ -44,7 +45,7 @@ told m e q = sym m ∙ sym e ∙ q
 -- a turn whose character is passed, and kept
 on : (c : After-next-p) (kept : ℕ) → (line_of c.args.layer.now c.args.back c.args.at c.args.step) (c.loop-k.k + 1) ≡ kept
     → ((s a : List ℕ) → Sought c.args.c s a → Passes s a kept)
-    → goal.the-invariant-loop-k c.args.layer.now c.args.back c.args.at c.args.step c.args.count c.args.c 0 0 0 c.next-p.result (c.loop-k.k + 1) kept
+    → (c.loop-k.k + 1 ≤ c.args.count) × ((c.next-p.result ≡ place c.args.back c.args.at c.args.step (c.loop-k.k + 1)) × ((s a : List ℕ) → Sought c.args.c s a → (walk_from (line_of c.args.layer.now c.args.back c.args.at c.args.step) s a (c.loop-k.k + 1) (c.args.count - (c.loop-k.k + 1)) ≡ walk_of (line_of c.args.layer.now c.args.back c.args.at c.args.step) s a c.args.count) × Passes s a kept))
 on c kept q p =
     let l = c.loop-k in
     let h = c.loop-k-test.true in (
@@ -84,7 +85,7 @@ loop-k-preserved-then-code-kept c =
 pub loop-k-preserved : goal.loop-k-preserved
 loop-k-preserved c =
     let l = c.loop-k in
-    on (goal.at.loop-k-preserved c).After-next-p l.auto (stands (goal.at.loop-k-preserved c).After-next-p ∙ c.if-code-kept.false) (λ ss aa e. (l.invariant.1.1 ss aa e).1)
+    on (goal.at.loop-k-preserved c).After-next-p l.kept (stands (goal.at.loop-k-preserved c).After-next-p ∙ c.if-code-kept.false) (λ ss aa e. (l.invariant.1.1 ss aa e).1)
 
 pub returns : goal.returns
 returns c ss aa e =

@@ -32,16 +32,16 @@ none x f a b d =
     (λ w. w))))))))))))
 
 pub returns-in_default : goal.returns-in_default
-returns-in_default c = none _ c.in_default-1.rest.1 (λ p q. omega arith) (λ p q. omega arith) (λ p q. omega arith)
+returns-in_default c = none _ c.in_default.in_default-own.rest.1 (λ p q. omega arith) (λ p q. omega arith) (λ p q. omega arith)
 
 pub returns-in_default-2 : goal.returns-in_default-2
-returns-in_default-2 c = none _ c.in_default-1.rest.1 (λ p q. omega arith) (λ p q. omega arith) (λ p q. omega arith)
+returns-in_default-2 c = none _ c.in_default.in_default-own.rest.1 (λ p q. omega arith) (λ p q. omega arith) (λ p q. omega arith)
 
 pub returns-in_default-3 : goal.returns-in_default-3
-returns-in_default-3 c = none _ c.in_default-1.rest.1 (λ p q. omega arith) (λ p q. omega arith) (λ p q. omega arith)
+returns-in_default-3 c = none _ c.in_default.in_default-own.rest.1 (λ p q. omega arith) (λ p q. omega arith) (λ p q. omega arith)
 
 pub returns-in_default-4 : goal.returns-in_default-4
-returns-in_default-4 c = none _ c.in_default-1.rest.1 (λ p q. omega arith) (λ p q. omega arith) (λ p q. omega arith)
+returns-in_default-4 c = none _ c.in_default.in_default-own.rest.1 (λ p q. omega arith) (λ p q. omega arith) (λ p q. omega arith)
 
 pub returns-in-9-to-13 : goal.returns-in-9-to-13
 returns-in-9-to-13 c = alone _ c.in-9-to-13.in-9-to-13-own.keys1
