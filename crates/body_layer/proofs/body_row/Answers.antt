@@ -10,10 +10,9 @@ pub loop-k-preserved : goal.loop-k-preserved
 loop-k-preserved c =
     let l = c.loop-k in
     let t = c.loop-k-test.true in
-    let e = c.body_at in
-    (turning_more l.invariant.0 _ t e.auto.1.1.0 e.ensures.0, turning_more l.invariant.1 _ t e.auto.1.1.1.0 e.ensures.1)
+    (turning_more l.invariant.0 _ t c.body_at.auto.bodies c.body_at.ensures.bodies_after, turning_more l.invariant.1 _ t c.body_at.auto.grid c.body_at.ensures.grid_after)
 
 pub returns : goal.returns
 returns c =
     let l = c.loop-k in
-    (turning_end l.invariant.0 c.loop-k-test.false, turning_end l.invariant.1 c.loop-k-test.false)
+    record { bodies_after = turning_end l.invariant.0 c.loop-k-test.false; grid_after = turning_end l.invariant.1 c.loop-k-test.false }

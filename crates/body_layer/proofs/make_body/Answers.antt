@@ -30,14 +30,10 @@ pub loop-y-preserved : goal.loop-y-preserved
 loop-y-preserved c =
     let l = c.loop-y in
     let t = c.loop-y-test.true in
-    let e = c.body_row in
-    (turning_more l.invariant.0 _ t e.auto.1.1.0 e.ensures.0, turning_more l.invariant.1 _ t e.auto.1.1.1.0 e.ensures.1)
+    (turning_more l.invariant.0 _ t c.body_row.auto.bodies c.body_row.ensures.bodies_after, turning_more l.invariant.1 _ t c.body_row.auto.grid c.body_row.ensures.grid_after)
 
 pub returns : goal.returns
 returns c =
     let a = c.args in
     let p = c.requires in
-    let l = c.loop-y in (
-      body-canvas a.width a.rows a.r p.1 a.thins.now a.bodies.now _ p.0.body (turning_end l.invariant.0 c.loop-y-test.false),
-      shaded_canvas a.width a.rows a.r p.1 a.grid.now _ p.0.grid (turning_end l.invariant.1 c.loop-y-test.false),
-    )
+    let l = c.loop-y in record { bodies_after = body-canvas a.width a.rows a.r p.1 a.thins.now a.bodies.now _ p.0.body (turning_end l.invariant.0 c.loop-y-test.false); grid_after = shaded_canvas a.width a.rows a.r p.1 a.grid.now _ p.0.grid (turning_end l.invariant.1 c.loop-y-test.false) }

@@ -32,8 +32,7 @@ carry_at-requires c =
 
 pub loop-k-preserved : goal.loop-k-preserved
 loop-k-preserved c =
-    let e = c.carry_at in
-    turning_more c.loop-k.invariant _ c.loop-k-test.true e.auto.1.1.1.0 e.ensures
+    turning_more c.loop-k.invariant _ c.loop-k-test.true c.carry_at.auto.grid c.carry_at.ensures
 
 pub returns-after-loop-k : goal.returns-after-loop-k
 returns-after-loop-k c =

@@ -29,8 +29,7 @@ carry_line-requires c = ((λ k h. omega (arith, inside (goal.at.carry_line-requi
 
 pub loop-j-preserved : goal.loop-j-preserved
 loop-j-preserved c =
-    let e = c.carry_line in
-    turning_more c.loop-j.invariant _ c.loop-j-test.true e.auto.1.1.1.0 e.ensures
+    turning_more c.loop-j.invariant _ c.loop-j-test.true c.carry_line.auto.grid c.carry_line.ensures
 
 pub returns : goal.returns
 returns c = turning_end c.loop-j.invariant c.loop-j-test.false

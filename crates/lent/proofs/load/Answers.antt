@@ -15,7 +15,7 @@ formed : (c : Else-not-is_well_formed) → well_formed (lent (UP.Start c)) ≡ t
 formed c = sym c.is_well_formed.ensures ∙ c.if-not-is_well_formed.false
 
 pub returns-then-not-is_well_formed : goal.returns-then-not-is_well_formed
-returns-then-not-is_well_formed c = (lent-refused (lent (goal.at.returns-then-not-is_well_formed c).Start) (sym c.is_well_formed.ensures ∙ c.if-not-is_well_formed.true), tt)
+returns-then-not-is_well_formed c = record { loaded = lent-refused (lent (goal.at.returns-then-not-is_well_formed c).Start) (sym c.is_well_formed.ensures ∙ c.if-not-is_well_formed.true); held = tt }
 
 pub load_rows-requires : goal.load_rows-requires
 load_rows-requires c = (rows_good (lent (goal.at.load_rows-requires c).Start) (formed (goal.at.load_rows-requires c).Else-not-is_well_formed), c.requires.size)
@@ -27,7 +27,4 @@ load_texts-requires c =
 pub returns : goal.returns
 returns c =
     let p = c.load_rows.ensures in
-    let q = c.load_texts.ensures in (
-      lent_loaded (lent (goal.at.returns c).Start) (formed (goal.at.returns c).Else-not-is_well_formed) _ c.load_texts.new.spans p.plane q.texts,
-      lent-held (lent (goal.at.returns c).Start) (formed (goal.at.returns c).Else-not-is_well_formed) _ _ p.plane p.fits (omega (arith, c.load_texts.auto.spans, c.requires.two_each)) q.inside,
-    )
+    let q = c.load_texts.ensures in record { loaded = lent_loaded (lent (goal.at.returns c).Start) (formed (goal.at.returns c).Else-not-is_well_formed) _ c.load_texts.new.spans p.plane q.texts; held = lent-held (lent (goal.at.returns c).Start) (formed (goal.at.returns c).Else-not-is_well_formed) _ _ p.plane p.fits (omega (arith, c.load_texts.auto.spans, c.requires.two_each)) q.inside }

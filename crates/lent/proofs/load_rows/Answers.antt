@@ -53,4 +53,4 @@ pub returns : goal.returns
 returns c =
     let a = c.args in
     let f = plane_end _ _ _ (length a.rows.now) _ c.loop-row.invariant.2 c.loop-row.invariant.0 c.loop-row-test.false in
-    (f.plane ∙ cut-rows a.rows.now (length a.kinds.now) (lent_cell a.kinds.now a.regions.now) c.requires.0.total, f.fits)
+    record { plane = f.plane ∙ cut-rows a.rows.now (length a.kinds.now) (lent_cell a.kinds.now a.regions.now) c.requires.0.total; fits = f.fits }

@@ -79,4 +79,4 @@ pub returns : goal.returns
 returns c =
     let a = c.args in
     let f = spans_end _ _ _ _ (length a.offsets.now) _ c.loop-k.invariant.1 c.loop-k.invariant.0 c.loop-k-test.false in
-    (f.texts, record { inside = f.inside })
+    record { texts = f.texts; inside = record { inside = f.inside } }

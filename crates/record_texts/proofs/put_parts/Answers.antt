@@ -14,7 +14,7 @@ pub put_part-offset-requires : goal.put_part-offset-requires
 put_part-offset-requires c =
     let more = c.loop-slot-test.true in
     let plain = c.if-slots-slot-gt-PART.false in
-    ((c.requires.parts, (more, plain)), part_fits c.loop-slot.invariant more plain)
+    record { parts = (c.requires.parts, (more, plain)); fits = part_fits c.loop-slot.invariant more plain }
 
 pub loop-slot-preserved : goal.loop-slot-preserved
 loop-slot-preserved c =

@@ -5,4 +5,4 @@ use Rattle.record_texts.proofs.put_text.Goals as goal
 
 pub returns : goal.returns
 returns c =
-    (refl, text_written _ _ _ _ _ _ c.put_slot.ensures c.put_bytes.ensures)
+    record { value = refl; out_after = text_written _ _ _ _ _ _ c.put_slot.ensures c.put_bytes.ensures }

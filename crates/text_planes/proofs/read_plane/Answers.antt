@@ -29,12 +29,11 @@ make_plane-requires c =
 pub returns-in-Made : goal.returns-in-Made
 returns-in-Made c =
     let p = c.requires in
-    let r = c.read_regions in
     let u = used (goal.at.returns-in-Made c).In-Read in
     let e = ap (λ (x : PlaneMade). plane_made x c.make_plane.new.plane) (sym c.in-Made.is) ∙ c.make_plane.ensures.made in
     let f = subst (λ (x : PlaneMade). MadeFits x c.make_plane.new.plane) c.in-Made.is c.make_plane.ensures.fits in (
       with_plane _ _ _ _ _ _ _ (told (goal.at.returns-in-Made c).In-Read) _ e,
-      plane-held _ _ _ _ _ c.in-Read.count c.in-Read.field-1 (c.read_regions.new.rects) _ (c.read_regions.new.bytes) (c.read_regions.new.spans) e f u (omega (arith, p.regions.all_texts, r.kept.1.1.1.1.1.0)) (omega (arith, u.0, p.regions.two_each, r.kept.1.1.1.1.1.1.0)),
+      plane-held _ _ _ _ _ c.in-Read.count c.in-Read.field-1 (c.read_regions.new.rects) _ (c.read_regions.new.bytes) (c.read_regions.new.spans) e f u (omega (arith, p.regions.all_texts, c.read_regions.auto.bytes)) (omega (arith, u.0, p.regions.two_each, c.read_regions.auto.spans)),
     )
 
 pub returns-in-NotMade : goal.returns-in-NotMade

@@ -15,8 +15,7 @@ put_code-p-requires c = omega (arith, c.loop-i.invariant.long)
 
 pub loop-i-preserved : goal.loop-i-preserved
 loop-i-preserved c =
-    let g = c.put_code-p in
-    encoding_more c.loop-i.invariant c.loop-i-test.true (omega (arith, c.loop-i.invariant.long, c.requires.3)) g.ensures g.auto.0
+    encoding_more c.loop-i.invariant c.loop-i-test.true (omega (arith, c.loop-i.invariant.long, c.requires.3)) c.put_code-p.ensures c.put_code-p.auto.out
 
 pub returns-then-p-gt-TEXT_BYTES-2 : goal.returns-then-p-gt-TEXT_BYTES-2
 returns-then-p-gt-TEXT_BYTES-2 c = encoding_past c.loop-i.invariant c.if-p-gt-TEXT_BYTES-2.true

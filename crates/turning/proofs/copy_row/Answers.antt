@@ -17,7 +17,7 @@ pub returns-then-width-eq0 : goal.returns-then-width-eq0
 returns-then-width-eq0 c =
     let a = c.args in
     let e : get_or a.plane.now a.row 0 ≡ 0 = omega (arith, c.if-width-eq0.true) in
-    (omega arith, (no_cells _ _ _ e, kept_refl _ _))
+    record { count = omega arith; cells = no_cells _ _ _ e; before = kept_refl _ _ }
 
 pub loop-i-init : goal.loop-i-init
 loop-i-init c = (omega arith, row-start _ _ _)
@@ -45,4 +45,4 @@ returns c =
     let a = c.args in
     let i = c.loop-i.invariant in
     let e : c.loop-i.i ≡ get_or a.plane.now a.row 0 - 1 = omega (arith, i.0, c.loop-i-test.false) in
-    (e, (i.1.cells ∙ ap (λ (n : ℕ). build n (λ k. cell_at a.plane.now a.row (k + 1))) e ∙ sym (drop-row a.plane.now a.row), i.1.before))
+    record { count = e; cells = i.1.cells ∙ ap (λ (n : ℕ). build n (λ k. cell_at a.plane.now a.row (k + 1))) e ∙ sym (drop-row a.plane.now a.row); before = i.1.before }

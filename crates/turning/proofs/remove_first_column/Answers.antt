@@ -28,4 +28,4 @@ loop-row-preserved c =
 pub returns : goal.returns
 returns c =
     let f = plane_end _ _ _ c.args.n _ c.loop-row.invariant.1 c.loop-row.invariant.0 c.loop-row-test.false in
-    (f.plane ∙ sym (dropped _ _), f.fits)
+    record { rows = f.plane ∙ sym (dropped _ _); fits = f.fits }

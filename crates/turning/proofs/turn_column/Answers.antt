@@ -23,4 +23,4 @@ loop-i-preserved c =
 pub returns : goal.returns
 returns c =
     let f = row_end _ _ _ _ c.args.n _ c.loop-i.invariant.1 c.loop-i.invariant.0 c.loop-i-test.false in
-    (f.cells, f.before)
+    record { cells = f.cells; before = f.before }

@@ -26,4 +26,4 @@ loop-j-preserved c =
 pub returns : goal.returns
 returns c =
     let f = plane_end _ _ _ c.args.w _ c.loop-j.invariant.1 c.loop-j.invariant.0 c.loop-j-test.false in
-    (f.plane, f.fits)
+    record { rows = f.plane; fits = f.fits }

@@ -9,8 +9,8 @@ pivot-requires c = let p = c.requires in record { fits = fewer_rows _ _ _ (omega
 
 pub returns-in-RulesAsRows : goal.returns-in-RulesAsRows
 returns-in-RulesAsRows c =
-    (row-sheet _ _ _ _ c.in-RulesAsRows.is c.remove_first_column.ensures.rows, c.remove_first_column.ensures.fits)
+    record { turned = row-sheet _ _ _ _ c.in-RulesAsRows.is c.remove_first_column.ensures.rows; fits = c.remove_first_column.ensures.fits }
 
 pub returns-in-RulesAsColumns : goal.returns-in-RulesAsColumns
 returns-in-RulesAsColumns c =
-    (column-sheet _ _ _ _ c.in-RulesAsColumns.is c.requires.1 c.pivot.ensures.turned, c.pivot.ensures.fits)
+    record { turned = column-sheet _ _ _ _ c.in-RulesAsColumns.is c.requires.1 c.pivot.ensures.turned; fits = c.pivot.ensures.fits }

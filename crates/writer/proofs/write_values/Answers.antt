@@ -16,8 +16,7 @@ pub put_slot-requires : goal.put_slot-requires
 put_slot-requires c =
     let pre = c.requires in
     let ask = values_ask _ _ _ pre.0.1 _ c.part_of-text.ensures _ _ pre.1 in
-    let wrote = c.put_values-end in
-    (omega (arith, ask, wrote.auto), omega (arith, ask), omega (arith, ask, wrote.ensures.0))
+    (omega (arith, ask, c.put_values-end.auto), omega (arith, ask), omega (arith, ask, c.put_values-end.ensures.value))
 
 pub returns : goal.returns
 returns c =
