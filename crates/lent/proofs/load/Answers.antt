@@ -8,11 +8,11 @@ use native.Mathlib.Omega.{arith}
 use Rattle.lent.proofs.load.Goals as goal
 use Rattle.lent.proofs.load.Goals.{Else-not-is_well_formed, Start}
 
+formed : (c : Else-not-is_well_formed) → let a = c.args in well_formed (record { rows = a.rows.now; kinds = a.kinds.now; regions = a.regions.now; offsets = a.offsets.now; sizes = a.sizes.now; bytes = a.bytes.now }) ≡ true
+formed c = sym c.is_well_formed.ensures ∙ c.if-not-is_well_formed.false
+
 abbrev lent : Start → LentPlane
 lent s = let a = s.args in record { rows = a.rows.now; kinds = a.kinds.now; regions = a.regions.now; offsets = a.offsets.now; sizes = a.sizes.now; bytes = a.bytes.now }
-
-formed : (c : Else-not-is_well_formed) → well_formed (lent (UP.Start c)) ≡ true
-formed c = sym c.is_well_formed.ensures ∙ c.if-not-is_well_formed.false
 
 pub returns-then-not-is_well_formed : goal.returns-then-not-is_well_formed
 returns-then-not-is_well_formed c = record { loaded = lent-refused (lent (goal.at.returns-then-not-is_well_formed c).Start) (sym c.is_well_formed.ensures ∙ c.if-not-is_well_formed.true); held = tt }

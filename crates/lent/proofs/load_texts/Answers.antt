@@ -7,24 +7,21 @@ use Rattle.cells.proofs.SpanLaws.{spans-start, spans-next, spans_end}
 use Rattle.lent.proofs.TextLaws.{part_trimmed}
 use native.Mathlib.Omega.{arith}
 use Rattle.lent.proofs.load_texts.Goals as goal
-use Rattle.lent.proofs.load_texts.Goals.{After-trim_utf8_part-part, Start}
+use Rattle.lent.proofs.load_texts.Goals.{After-trim_utf8_part-part}
 
 -- part k lies within the bytes, which are few, and there is room for its two numbers
 module _ (c : After-trim_utf8_part-part) where
-  abbrev start : Start
-  start = ⟪c.before.before.before.before.before.before.before.before.before⟫
-
   abbrev k : ℕ
   k = c.loop-k.k
 
-  inside : get_or start.args.offsets.now k 0 + get_or start.args.sizes.now k 0 ≤ length start.args.bytes.now
-  inside = start.pre.0.inside k c.loop-k-test.true
+  inside : get_or c.args.offsets.now k 0 + get_or c.args.sizes.now k 0 ≤ length c.args.bytes.now
+  inside = c.requires.0.inside k c.loop-k-test.true
 
-  few : length start.args.bytes.now ≤ text_bytes
-  few = start.pre.0.few
+  few : length c.args.bytes.now ≤ text_bytes
+  few = c.requires.0.few
 
-  room : k * 2 + 1 < length start.args.spans.now
-  room = omega (arith, c.loop-k-test.true, start.pre.1)
+  room : k * 2 + 1 < length c.args.spans.now
+  room = omega (arith, c.loop-k-test.true, c.requires.1)
 
 pub loop-k-init : goal.loop-k-init
 loop-k-init c = (omega arith, spans-start _ _ _)

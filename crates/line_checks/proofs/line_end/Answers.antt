@@ -17,16 +17,14 @@ pub loop-p-init : goal.loop-p-init
 loop-p-init c = let e = c.skip_plain-p.ensures in pass-plain e.0 e.1 e.2 (pass-start _ _ c.requires)
 
 pub returns-then-n-eq0 : goal.returns-then-n-eq0
-returns-then-n-eq0 c =
-    pass_stop c.loop-p.invariant (codes_bad _ (passed_bad c.args.s.now c.loop-p.p c.loop-p-test.true _ c.passed-n.ensures c.if-n-eq0.true))
+returns-then-n-eq0 c = let w = pass_stop c.loop-p.invariant (codes_bad _ (passed_bad c.args.s.now c.loop-p.p c.loop-p-test.true _ c.passed-n.ensures c.if-n-eq0.true)) in record { next = w.0; valid = w.1 }
 
 -- a code point
 char : (c : After-passed-n) → (c.passed-n.result ≡ 0 → ⊥) → decode (drop c.loop-p.p c.args.s.now) ≡ Char (code_of (decode (drop c.loop-p.p c.args.s.now))) c.passed-n.result
 char c f = passed_char (drop c.loop-p.p c.args.s.now) _ c.passed-n.ensures f
 
 pub returns-then-s-p-eq10 : goal.returns-then-s-p-eq10
-returns-then-s-p-eq10 c =
-    pass_feed c.loop-p.invariant (feed_here c.args.s.now c.loop-p.p c.loop-p-test.true c.if-s-p-eq10.true) refl
+returns-then-s-p-eq10 c = let w = pass_feed c.loop-p.invariant (feed_here c.args.s.now c.loop-p.p c.loop-p-test.true c.if-s-p-eq10.true) refl in record { next = w.0; valid = w.1 }
 
 pub skip_some-p-requires : goal.skip_some-p-requires
 skip_some-p-requires c =
@@ -43,4 +41,4 @@ loop-p-preserved c =
     pass-plain e.0 e.1 e.2 (pass-more c.loop-p.invariant d (no_feed_here c.args.s.now c.loop-p.p c.loop-p-test.true c.if-s-p-eq10.false d))
 
 pub returns : goal.returns
-returns c = pass_end c.loop-p.invariant c.loop-p-test.false
+returns c = let w = pass_end c.loop-p.invariant c.loop-p-test.false in record { next = w.0; valid = w.1 }

@@ -10,4 +10,4 @@ returns-then-t c =
     (c.add_line.ensures.made ∙ rw c.if-t.true, c.add_line.ensures.fits)
 
 pub returns : goal.returns
-returns c = (rw c.if-t.false, c.requires)
+returns c = let w = (rw c.if-t.false, c.requires) in record { made = w.0; fits = w.1 }

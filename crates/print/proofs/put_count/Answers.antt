@@ -4,10 +4,6 @@ use Rattle.print.specs.Lines.{count_line}
 use Rattle.print.proofs.WrittenLaws.{written_then, written_within}
 use native.Mathlib.Omega.{arith}
 use Rattle.print.proofs.put_count.Goals as goal
-use Rattle.print.proofs.put_count.Tie as tie
-
--- LEFT slice-aggregate-put-word : tie.Need-slice-aggregate-put-word
--- slice-aggregate-put-word c = refl
 
 pub returns : goal.returns
 unfolding count_line

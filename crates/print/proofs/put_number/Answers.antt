@@ -6,7 +6,7 @@ use Rattle.print.proofs.put_number.Goals as goal
 
 pub put_bytes-requires : goal.put_bytes-requires
 put_bytes-requires c =
-    omega (arith, decimal-width _ _ (omega arith) c.decimal-k.ensures.len, width_most c.args.n, c.decimal-k.ensures.in_bounds.1)
+    omega (arith, decimal-width _ _ (omega arith) c.decimal-k.ensures.len, width_most c.args.n, c.decimal-k.ensures.in_bounds)
 
 pub overflow_add-result : goal.overflow_add-result
 overflow_add-result c =
@@ -14,4 +14,4 @@ overflow_add-result c =
 
 pub returns : goal.returns
 returns c =
-    written_number _ _ _ _ _ _ (omega arith) c.decimal-k.ensures.len c.decimal-k.ensures.1.1 c.put_bytes.ensures
+    written_number _ _ _ _ _ _ (omega arith) c.decimal-k.ensures.len c.decimal-k.ensures.digits c.put_bytes.ensures

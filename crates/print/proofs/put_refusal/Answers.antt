@@ -4,10 +4,6 @@ use Rattle.print.specs.Lines.{refused_line}
 use Rattle.print.proofs.WrittenLaws.{written_as, written_within}
 use native.Mathlib.Omega.{arith}
 use Rattle.print.proofs.put_refusal.Goals as goal
-use Rattle.print.proofs.put_refusal.Tie as tie
-
--- LEFT slice-aggregate-put-three : tie.Need-slice-aggregate-put-three
--- slice-aggregate-put-three c = refl
 
 pub returns : goal.returns
 returns c =

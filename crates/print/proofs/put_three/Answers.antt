@@ -4,16 +4,6 @@ use Rattle.print.specs.Lines.{three_line}
 use Rattle.print.proofs.WrittenLaws.{written_then, written_within}
 use native.Mathlib.Omega.{arith}
 use Rattle.print.proofs.put_three.Goals as goal
-use Rattle.print.proofs.put_three.Tie as tie
-
--- LEFT slice-aggregate-put-word : tie.Need-slice-aggregate-put-word
--- slice-aggregate-put-word c = refl
-
--- LEFT slice-aggregate-put-word-2 : tie.Need-slice-aggregate-put-word-2
--- slice-aggregate-put-word-2 c = refl
-
--- LEFT slice-aggregate-put-word-3 : tie.Need-slice-aggregate-put-word-3
--- slice-aggregate-put-word-3 c = refl
 
 pub returns : goal.returns
 unfolding three_line

@@ -3,20 +3,15 @@ use Rattle.record_texts.proofs.Steps.{absent_part, part_within, present-fits, pr
 use Rattle.record_texts.proofs.put_part.Goals as goal
 
 pub returns-then-slots-slot-eq-ABSENT : goal.returns-then-slots-slot-eq-ABSENT
-returns-then-slots-slot-eq-ABSENT c =
-    absent_part _ _ _ _ _ _ c.if-slots-slot-eq-ABSENT.true c.put_slot.ensures
+returns-then-slots-slot-eq-ABSENT c = let w = absent_part _ _ _ _ _ _ c.if-slots-slot-eq-ABSENT.true c.put_slot.ensures in record { value = w.0; out_after = w.1 }
 
 pub part-requires : goal.part-requires
 part-requires c =
-    let pre = c.requires in
-    part_within pre.0.0 _ _ _ pre.0.1.0 pre.0.1.1 c.if-slots-slot-eq-ABSENT.false c.wide-a.ensures c.wide-n.ensures
+    part_within c.requires.parts.0 _ _ _ c.requires.parts.1.0 c.requires.parts.1.1 c.if-slots-slot-eq-ABSENT.false c.wide-a.ensures c.wide-n.ensures
 
 pub put_text-requires : goal.put_text-requires
 put_text-requires c =
-    let pre = c.requires in
-    present-fits pre.0.0 _ _ _ pre.0.1.0 pre.0.1.1 c.if-slots-slot-eq-ABSENT.false c.wide-a.ensures c.wide-n.ensures _ c.part.ensures _ _ pre.1
+    present-fits c.requires.parts.0 _ _ _ c.requires.parts.1.0 c.requires.parts.1.1 c.if-slots-slot-eq-ABSENT.false c.wide-a.ensures c.wide-n.ensures _ c.part.ensures _ _ c.requires.fits
 
 pub returns : goal.returns
-returns c =
-    let pre = c.requires in
-    present_part pre.0.0 _ _ _ pre.0.1.0 pre.0.1.1 c.if-slots-slot-eq-ABSENT.false c.wide-a.ensures c.wide-n.ensures _ c.part.ensures _ _ _ _ c.put_text.ensures
+returns c = let w = present_part c.requires.parts.0 _ _ _ c.requires.parts.1.0 c.requires.parts.1.1 c.if-slots-slot-eq-ABSENT.false c.wide-a.ensures c.wide-n.ensures _ c.part.ensures _ _ _ _ c.put_text.ensures in record { value = w.0; out_after = w.1 }

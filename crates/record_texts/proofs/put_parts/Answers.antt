@@ -8,7 +8,7 @@ pub loop-slot-init : goal.loop-slot-init
 loop-slot-init c = parts-start _ _ _ _ _ _ c.requires.fits
 
 pub returns-then-slots-slot-gt-PART : goal.returns-then-slots-slot-gt-PART
-returns-then-slots-slot-gt-PART c = parts_end c.loop-slot.invariant (plain_stop _ _ _ c.if-slots-slot-gt-PART.true)
+returns-then-slots-slot-gt-PART c = let w = parts_end c.loop-slot.invariant (plain_stop _ _ _ c.if-slots-slot-gt-PART.true) in record { slot_value = w.0; out_after = w.1 }
 
 pub put_part-offset-requires : goal.put_part-offset-requires
 put_part-offset-requires c =
@@ -22,4 +22,4 @@ loop-slot-preserved c =
     parts_next c.loop-slot.invariant c.loop-slot-test.true c.if-slots-slot-gt-PART.false _ _ wrote.out_after wrote.value
 
 pub returns : goal.returns
-returns c = parts_end c.loop-slot.invariant (plain_end _ _ _ c.loop-slot-test.false)
+returns c = let w = parts_end c.loop-slot.invariant (plain_end _ _ _ c.loop-slot-test.false) in record { slot_value = w.0; out_after = w.1 }

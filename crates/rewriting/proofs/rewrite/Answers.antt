@@ -27,8 +27,7 @@ shape_of-out-then-r-s c =
 pub returns-then-r-s : goal.returns-then-r-s
 returns-then-r-s c =
     let f = c.find-r.ensures in
-    let m = rewriting_copy c.loop-i.invariant f c.put_bytes.ensures c.put_bytes.auto.out in
-    rewriting_end m (omega arith)
+    let m = rewriting_copy c.loop-i.invariant f c.put_bytes.ensures c.put_bytes.auto.out in let w = rewriting_end m (omega arith) in record { value = w.0; out_after = w.1 }
 
 pub put_bytes-requires-in-loop-i : goal.put_bytes-requires-in-loop-i
 put_bytes-requires-in-loop-i c =
@@ -64,4 +63,4 @@ pub shape_of-out : goal.shape_of-out
 shape_of-out c = c.loop-i.invariant.long
 
 pub returns : goal.returns
-returns c = rewriting_end c.loop-i.invariant c.loop-i-test.false
+returns c = let w = rewriting_end c.loop-i.invariant c.loop-i-test.false in record { value = w.0; out_after = w.1 }

@@ -11,13 +11,11 @@ slice_bounds-measure-end c = refl
 
 pub returns-then-rows-gt-CANVAS_ROWS : goal.returns-then-rows-gt-CANVAS_ROWS
 returns-then-rows-gt-CANVAS_ROWS c =
-    let a = c.args in
-    scan_rows c.sheet_start-start.ensures.start c.measure-m.ensures.measured a.text.now a.body.now (omega arith)
+    let a = c.args in let w = scan_rows c.sheet_start-start.ensures.start c.measure-m.ensures.measured a.text.now a.body.now (omega arith) in record { answer = w.0; end = w.1.0; valid = w.1.1.0; layer = w.1.1.1.0; body = w.1.1.1.1 }
 
 pub returns-then-columns-gt-CANVAS_COLUMNS : goal.returns-then-columns-gt-CANVAS_COLUMNS
 returns-then-columns-gt-CANVAS_COLUMNS c =
-    let a = c.args in
-    scan_columns c.sheet_start-start.ensures.start c.measure-m.ensures.measured a.text.now a.body.now (omega arith)
+    let a = c.args in let w = scan_columns c.sheet_start-start.ensures.start c.measure-m.ensures.measured a.text.now a.body.now (omega arith) in record { answer = w.0; end = w.1.0; valid = w.1.1.0; layer = w.1.1.1.0; body = w.1.1.1.1 }
 
 pub write_rows-requires : goal.write_rows-requires
 write_rows-requires c =
@@ -28,5 +26,4 @@ write_rows-requires c =
 pub returns : goal.returns
 returns c =
     let a = c.args in
-    let h : c.measure-m.result.rows ≤ canvas_rows = omega arith in
-    scan_canvas c.sheet_start-start.ensures.start c.measure-m.ensures.measured a.text.now a.body.now h (omega arith) (c.measure-m.ensures.kept h) _ (c.sheet_start-start.ensures.valid.same ∙ c.measure-m.ensures.valid) c.write_rows.ensures
+    let h : c.measure-m.result.rows ≤ canvas_rows = omega arith in let w = scan_canvas c.sheet_start-start.ensures.start c.measure-m.ensures.measured a.text.now a.body.now h (omega arith) (c.measure-m.ensures.kept h) _ (c.sheet_start-start.ensures.valid.same ∙ c.measure-m.ensures.valid) c.write_rows.ensures in record { answer = w.0; end = w.1.0; valid = w.1.1.0; layer = w.1.1.1.0; body = w.1.1.1.1 }

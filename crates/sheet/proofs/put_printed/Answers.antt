@@ -4,10 +4,6 @@ use Rattle.print.proofs.WrittenLaws.{written_as, written_within}
 use Rattle.sheet.proofs.PrintedLaws.{printed_long, printed-sheet}
 use native.Mathlib.Omega.{arith}
 use Rattle.sheet.proofs.put_printed.Goals as goal
-use Rattle.sheet.proofs.put_printed.Tie as tie
-
--- LEFT slice-aggregate-put-word : tie.Need-slice-aggregate-put-word
--- slice-aggregate-put-word c = refl
 
 pub returns-then-s-gt-TEXT_BYTES : goal.returns-then-s-gt-TEXT_BYTES
 returns-then-s-gt-TEXT_BYTES c =

@@ -46,13 +46,11 @@ loop-p-preserved c = scan_white c.loop-p.invariant (white c).0 (white c).1.0 (wh
 
 pub returns-in-LineFeed : goal.returns-in-LineFeed
 returns-in-LineFeed c =
-    let feed = told _ LineFeed (sym c.in-LineFeed.is ∙ c.seen_at-e.ensures) in
-    found_in _ c.rest_of.ensures (scan_feed c.loop-p.invariant (feed_byte _ feed) refl)
+    let feed = told _ LineFeed (sym c.in-LineFeed.is ∙ c.seen_at-e.ensures) in let w = found_in _ c.rest_of.ensures (scan_feed c.loop-p.invariant (feed_byte _ feed) refl) in record { rest = w.0; valid = w.1 }
 
 pub returns-in-Nothing : goal.returns-in-Nothing
 returns-in-Nothing c =
-    let none = told _ Nothing (sym c.in-Nothing.is ∙ c.seen_at-e.ensures) in
-    found_in _ c.rest_of-in-Nothing.ensures (scan_stop c.loop-p.invariant (none_left _ none))
+    let none = told _ Nothing (sym c.in-Nothing.is ∙ c.seen_at-e.ensures) in let w = found_in _ c.rest_of-in-Nothing.ensures (scan_stop c.loop-p.invariant (none_left _ none)) in record { rest = w.0; valid = w.1 }
 
 pub returns : goal.returns
-returns c = found_in _ c.rest_of-2.ensures (scan_end c.loop-p.invariant c.loop-p-test.false)
+returns c = let w = found_in _ c.rest_of-2.ensures (scan_end c.loop-p.invariant c.loop-p-test.false) in record { rest = w.0; valid = w.1 }

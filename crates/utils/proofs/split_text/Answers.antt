@@ -46,8 +46,7 @@ pub measure-n-requires : goal.measure-n-requires
 measure-n-requires c = (part_sizes c.first_marked-f.ensures c.if-f.true, c.periods_of-k.ensures)
 
 pub returns-then-scratch-n : goal.returns-then-scratch-n
-returns-then-scratch-n c =
-    answer-short c.first_marked-f.ensures c.args.scratch.now c.if-f.true c.measure-n.ensures c.if-scratch-n.true
+returns-then-scratch-n c = let w = answer-short c.first_marked-f.ensures c.args.scratch.now c.if-f.true c.measure-n.ensures c.if-scratch-n.true in record { answer = w.0; places = w.1.0; scratch = w.1.1 }
 
 pub slice_bounds-rewrite-count : goal.slice_bounds-rewrite-count
 slice_bounds-rewrite-count c = part_ordered c.first_marked-f.ensures
@@ -79,8 +78,7 @@ pub shape_of-scratch-then-f : goal.shape_of-scratch-then-f
 shape_of-scratch-then-f c = c.rewrite.auto.out
 
 pub returns-then-f : goal.returns-then-f
-returns-then-f c =
-    answer_rewritten c.first_marked-f.ensures c.args.scratch.now c.if-f.true c.measure-n.ensures c.if-scratch-n.false c.rewrite.ensures.out_after
+returns-then-f c = let w = answer_rewritten c.first_marked-f.ensures c.args.scratch.now c.if-f.true c.measure-n.ensures c.if-scratch-n.false c.rewrite.ensures.out_after in record { answer = w.0; places = w.1.0; scratch = w.1.1 }
 
 pub returns : goal.returns
-returns c = answer_own c.first_marked-f.ensures c.args.scratch.now c.if-f.false
+returns c = let w = answer_own c.first_marked-f.ensures c.args.scratch.now c.if-f.false in record { answer = w.0; places = w.1.0; scratch = w.1.1 }

@@ -16,13 +16,11 @@ rewrite-requires c =
     (((part_sizes found c.if-f.true).0, rw (allowed-marked found c.if-f.true) at c.requires), c.periods_of-k.ensures)
 
 pub returns-then-f : goal.returns-then-f
-returns-then-f c =
-    rw (allowed-marked c.first_marked-f.ensures c.if-f.true) c.rewrite.ensures
+returns-then-f c = let w = rw (allowed-marked c.first_marked-f.ensures c.if-f.true) c.rewrite.ensures in record { value = w.0; out_after = w.1 }
 
 pub put_bytes-requires : goal.put_bytes-requires
 put_bytes-requires c =
     rw (allowed-plain c.first_marked-f.ensures c.if-f.false) at c.requires
 
 pub returns : goal.returns
-returns c =
-    rw (allowed-plain c.first_marked-f.ensures c.if-f.false) (refl, c.put_bytes.ensures)
+returns c = let w = rw (allowed-plain c.first_marked-f.ensures c.if-f.false) (refl, c.put_bytes.ensures) in record { value = w.0; out_after = w.1 }

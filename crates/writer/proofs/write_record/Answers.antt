@@ -14,10 +14,8 @@ write_slots-requires c =
 
 pub returns-in-Record : goal.returns-in-Record
 returns-in-Record c =
-    let begun = c.begin_record.ensures in
-    record_whole c.requires c.args.out.now _ begun.out_after _ _ (sym c.in-Record.is ∙ begun.value) c.write_slots.ensures
+    let begun = c.begin_record.ensures in let w = record_whole c.requires c.args.out.now _ begun.out_after _ _ (sym c.in-Record.is ∙ begun.value) c.write_slots.ensures in record { answer = w.0; written = w.1 }
 
 pub returns-in-NotWritten : goal.returns-in-NotWritten
 returns-in-NotWritten c =
-    let begun = c.begin_record.ensures in
-    record_short c.requires c.args.out.now _ begun.out_after _ (sym c.in-NotWritten.is ∙ begun.value)
+    let begun = c.begin_record.ensures in let w = record_short c.requires c.args.out.now _ begun.out_after _ (sym c.in-NotWritten.is ∙ begun.value) in record { answer = w.0; written = w.1 }

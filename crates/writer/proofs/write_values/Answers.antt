@@ -9,16 +9,12 @@ part_of-text-requires c = let held = c.requires.parts_held.0 in (omega (arith, h
 
 pub put_values-end-requires : goal.put_values-end-requires
 put_values-end-requires c =
-    let pre = c.requires in
-    (values_ask _ _ _ pre.0.1 _ c.part_of-text.ensures _ _ pre.1).1
+    (values_ask _ _ _ c.requires.parts_held.1 _ c.part_of-text.ensures _ _ c.requires.fits).1
 
 pub put_slot-requires : goal.put_slot-requires
 put_slot-requires c =
-    let pre = c.requires in
-    let ask = values_ask _ _ _ pre.0.1 _ c.part_of-text.ensures _ _ pre.1 in
+    let ask = values_ask _ _ _ c.requires.parts_held.1 _ c.part_of-text.ensures _ _ c.requires.fits in
     (omega (arith, ask, c.put_values-end.auto), omega (arith, ask), omega (arith, ask, c.put_values-end.ensures.value))
 
 pub returns : goal.returns
-returns c =
-    let pre = c.requires in
-    values-left _ _ _ pre.0.1 _ c.part_of-text.ensures _ _ pre.1 _ _ _ _ refl c.put_values-end.ensures c.put_slot.ensures
+returns c = let w = values-left _ _ _ c.requires.parts_held.1 _ c.part_of-text.ensures _ _ c.requires.fits _ _ _ _ refl c.put_values-end.ensures c.put_slot.ensures in record { value = w.0; out_after = w.1 }
