@@ -8,7 +8,7 @@ loop-i-init c = meet_start _ _ _ _ _ _
 
 pub is_met-requires : goal.is_met-requires
 is_met-requires c =
-    ((c.requires.plane_fits.0.room, c.requires.plane_fits.1, c.requires.plane_fits.2, c.loop-i.invariant.within), c.requires.le_y)
+    record { plane_size_in_bounds = (c.requires.plane_fits.0.room, c.requires.plane_fits.1, c.requires.plane_fits.2, c.loop-i.invariant.within); le_y = c.requires.le_y }
 
 pub returns-then-is_met : goal.returns-then-is_met
 returns-then-is_met c =

@@ -25,7 +25,7 @@ pub overflow_add-base : goal.overflow_add-base
 overflow_add-base c = omega (arith, inside (goal.at.overflow_add-base c).In-loop-j 0 (omega arith))
 
 pub carry_line-requires : goal.carry_line-requires
-carry_line-requires c = ((λ k h. omega (arith, inside (goal.at.carry_line-requires c).In-loop-j k h, c.loop-j.invariant.long)), (omega arith, c.requires.line_stays))
+carry_line-requires c = record { by_index = (λ k h. omega (arith, inside (goal.at.carry_line-requires c).In-loop-j k h, c.loop-j.invariant.long)); n_bound = omega arith; line_stays = c.requires.line_stays }
 
 pub loop-j-preserved : goal.loop-j-preserved
 loop-j-preserved c =

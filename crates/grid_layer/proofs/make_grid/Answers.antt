@@ -31,12 +31,12 @@ overflow_add-base c = omega (arith, corner (goal.at.overflow_add-base c).After-c
 
 pub carry_lines-requires : goal.carry_lines-requires
 carry_lines-requires c =
-    (rows_in_lem c.requires.1 (copied (goal.at.carry_lines-requires c).After-copy_layer), (omega arith, across_stays))
+    record { by_index = rows_in_lem c.requires.1 (copied (goal.at.carry_lines-requires c).After-copy_layer); n_nonzero = omega arith; line_stays = across_stays }
 
 pub carry_lines-requires-2 : goal.carry_lines-requires-2
 carry_lines-requires-2 c =
     let p = c.requires in
-    (columns_in p.1 (carried (goal.at.carry_lines-requires-2 c).After-carry_lines), (omega arith, down_stays))
+    record { by_index = columns_in p.1 (carried (goal.at.carry_lines-requires-2 c).After-carry_lines); n_nonzero = omega arith; line_stays = down_stays }
 
 pub returns : goal.returns
 returns c =

@@ -43,40 +43,40 @@ bytes_fit : (c : In-EndsAt-list_end-5) → EndFits c.args.s.now c.in-EndsAt-list
 bytes_fit c = got_fits c.args.s.now _ c.list_end-6.ensures.end_within c.in-EndsAt-list_end-5.is
 
 pub returns-in_default : goal.returns-in_default
-returns-in_default c = (no_rows _ (lost _ _ c.list_end.ensures.s_value c.in_default.is), tt)
+returns-in_default c = record { s_value = no_rows _ (lost _ _ c.list_end.ensures.s_value c.in_default.is); lists_within = tt }
 
 pub list_end-requires-2 : goal.list_end-requires-2
 list_end-requires-2 c = (rows_fit c).high
 
 pub returns-in_default-list_end : goal.returns-in_default-list_end
-returns-in_default-list_end c = (no_kinds _ (rows (goal.at.returns-in_default-list_end c).In-EndsAt) (lost _ _ c.list_end-2.ensures.s_value c.in_default-list_end.is), tt)
+returns-in_default-list_end c = record { s_value = no_kinds _ (rows (goal.at.returns-in_default-list_end c).In-EndsAt) (lost _ _ c.list_end-2.ensures.s_value c.in_default-list_end.is); lists_within = tt }
 
 pub list_end-requires-3 : goal.list_end-requires-3
 list_end-requires-3 c = (kinds_fit c).high
 
 pub returns-in_default-list_end-2 : goal.returns-in_default-list_end-2
-returns-in_default-list_end-2 c = (no_regions _ (rows (goal.at.returns-in_default-list_end-2 c).In-EndsAt) (kinds (goal.at.returns-in_default-list_end-2 c).In-EndsAt-list_end) (lost _ _ c.list_end-3.ensures.s_value c.in_default-list_end-2.is), tt)
+returns-in_default-list_end-2 c = record { s_value = no_regions _ (rows (goal.at.returns-in_default-list_end-2 c).In-EndsAt) (kinds (goal.at.returns-in_default-list_end-2 c).In-EndsAt-list_end) (lost _ _ c.list_end-3.ensures.s_value c.in_default-list_end-2.is); lists_within = tt }
 
 pub list_end-requires-4 : goal.list_end-requires-4
 list_end-requires-4 c = (regions_fit c).high
 
 pub returns-in_default-list_end-3 : goal.returns-in_default-list_end-3
-returns-in_default-list_end-3 c = (no_offsets _ (rows (goal.at.returns-in_default-list_end-3 c).In-EndsAt) (kinds (goal.at.returns-in_default-list_end-3 c).In-EndsAt-list_end) (regions (goal.at.returns-in_default-list_end-3 c).In-EndsAt-list_end-2) (lost _ _ c.list_end-4.ensures.s_value c.in_default-list_end-3.is), tt)
+returns-in_default-list_end-3 c = record { s_value = no_offsets _ (rows (goal.at.returns-in_default-list_end-3 c).In-EndsAt) (kinds (goal.at.returns-in_default-list_end-3 c).In-EndsAt-list_end) (regions (goal.at.returns-in_default-list_end-3 c).In-EndsAt-list_end-2) (lost _ _ c.list_end-4.ensures.s_value c.in_default-list_end-3.is); lists_within = tt }
 
 pub list_end-requires-5 : goal.list_end-requires-5
 list_end-requires-5 c = (offsets_fit c).high
 
 pub returns-in_default-list_end-4 : goal.returns-in_default-list_end-4
-returns-in_default-list_end-4 c = (no_sizes _ (rows (goal.at.returns-in_default-list_end-4 c).In-EndsAt) (kinds (goal.at.returns-in_default-list_end-4 c).In-EndsAt-list_end) (regions (goal.at.returns-in_default-list_end-4 c).In-EndsAt-list_end-2) (offsets (goal.at.returns-in_default-list_end-4 c).In-EndsAt-list_end-3) (lost _ _ c.list_end-5.ensures.s_value c.in_default-list_end-4.is), tt)
+returns-in_default-list_end-4 c = record { s_value = no_sizes _ (rows (goal.at.returns-in_default-list_end-4 c).In-EndsAt) (kinds (goal.at.returns-in_default-list_end-4 c).In-EndsAt-list_end) (regions (goal.at.returns-in_default-list_end-4 c).In-EndsAt-list_end-2) (offsets (goal.at.returns-in_default-list_end-4 c).In-EndsAt-list_end-3) (lost _ _ c.list_end-5.ensures.s_value c.in_default-list_end-4.is); lists_within = tt }
 
 pub list_end-requires-6 : goal.list_end-requires-6
 list_end-requires-6 c = (sizes_fit c).high
 
 pub returns-in_default-list_end-5 : goal.returns-in_default-list_end-5
-returns-in_default-list_end-5 c = (no_bytes _ (rows (goal.at.returns-in_default-list_end-5 c).In-EndsAt) (kinds (goal.at.returns-in_default-list_end-5 c).In-EndsAt-list_end) (regions (goal.at.returns-in_default-list_end-5 c).In-EndsAt-list_end-2) (offsets (goal.at.returns-in_default-list_end-5 c).In-EndsAt-list_end-3) (sizes (goal.at.returns-in_default-list_end-5 c).In-EndsAt-list_end-4) (lost _ _ c.list_end-6.ensures.s_value c.in_default-list_end-5.is), tt)
+returns-in_default-list_end-5 c = record { s_value = no_bytes _ (rows (goal.at.returns-in_default-list_end-5 c).In-EndsAt) (kinds (goal.at.returns-in_default-list_end-5 c).In-EndsAt-list_end) (regions (goal.at.returns-in_default-list_end-5 c).In-EndsAt-list_end-2) (offsets (goal.at.returns-in_default-list_end-5 c).In-EndsAt-list_end-3) (sizes (goal.at.returns-in_default-list_end-5 c).In-EndsAt-list_end-4) (lost _ _ c.list_end-6.ensures.s_value c.in_default-list_end-5.is); lists_within = tt }
 
 pub returns-then-bytes-s : goal.returns-then-bytes-s
-returns-then-bytes-s c = (left_over _ (rows (goal.at.returns-then-bytes-s c).In-EndsAt) (kinds (goal.at.returns-then-bytes-s c).In-EndsAt-list_end) (regions (goal.at.returns-then-bytes-s c).In-EndsAt-list_end-2) (offsets (goal.at.returns-then-bytes-s c).In-EndsAt-list_end-3) (sizes (goal.at.returns-then-bytes-s c).In-EndsAt-list_end-4) (bytes (goal.at.returns-then-bytes-s c).In-EndsAt-list_end-5) c.if-bytes-s.true, tt)
+returns-then-bytes-s c = record { s_value = left_over _ (rows (goal.at.returns-then-bytes-s c).In-EndsAt) (kinds (goal.at.returns-then-bytes-s c).In-EndsAt-list_end) (regions (goal.at.returns-then-bytes-s c).In-EndsAt-list_end-2) (offsets (goal.at.returns-then-bytes-s c).In-EndsAt-list_end-3) (sizes (goal.at.returns-then-bytes-s c).In-EndsAt-list_end-4) (bytes (goal.at.returns-then-bytes-s c).In-EndsAt-list_end-5) c.if-bytes-s.true; lists_within = tt }
 
 pub returns : goal.returns
-returns c = (all_lists _ (rows (goal.at.returns c).In-EndsAt) (kinds (goal.at.returns c).In-EndsAt-list_end) (regions (goal.at.returns c).In-EndsAt-list_end-2) (offsets (goal.at.returns c).In-EndsAt-list_end-3) (sizes (goal.at.returns c).In-EndsAt-list_end-4) (bytes (goal.at.returns c).In-EndsAt-list_end-5) (omega (arith, c.if-bytes-s.false)), record { rows = rows_fit (goal.at.returns c).In-EndsAt; kinds = kinds_fit (goal.at.returns c).In-EndsAt-list_end; regions = regions_fit (goal.at.returns c).In-EndsAt-list_end-2; offsets = offsets_fit (goal.at.returns c).In-EndsAt-list_end-3; sizes = sizes_fit (goal.at.returns c).In-EndsAt-list_end-4; bytes = bytes_fit (goal.at.returns c).In-EndsAt-list_end-5 })
+returns c = record { s_value = all_lists _ (rows (goal.at.returns c).In-EndsAt) (kinds (goal.at.returns c).In-EndsAt-list_end) (regions (goal.at.returns c).In-EndsAt-list_end-2) (offsets (goal.at.returns c).In-EndsAt-list_end-3) (sizes (goal.at.returns c).In-EndsAt-list_end-4) (bytes (goal.at.returns c).In-EndsAt-list_end-5) (omega (arith, c.if-bytes-s.false)); lists_within = record { rows = rows_fit (goal.at.returns c).In-EndsAt; kinds = kinds_fit (goal.at.returns c).In-EndsAt-list_end; regions = regions_fit (goal.at.returns c).In-EndsAt-list_end-2; offsets = offsets_fit (goal.at.returns c).In-EndsAt-list_end-3; sizes = sizes_fit (goal.at.returns c).In-EndsAt-list_end-4; bytes = bytes_fit (goal.at.returns c).In-EndsAt-list_end-5 } }

@@ -33,7 +33,7 @@ ends_2 b = b.add_line_if-b.ensures.ends ∙ ap (λ (u : Bool). b.add_line_if-a.r
 -- the frame's own cell fits behind the double lines
 room : (b : After-add_line_if-b) → b.add_line_if-b.result < plane_cells
 room b =
-    omega (arith, b.if-from-one_if-gt-PLANE_CELLS.left, ends (UP.After-add_line_if-a b), ends_2 b, output_one (UP.After-one_if-2 b), annotation_one (UP.After-one_if-2 b))
+    omega (arith, b.if-from-one_if-gt-PLANE_CELLS.false, ends (UP.After-add_line_if-a b), ends_2 b, output_one (UP.After-one_if-2 b), annotation_one (UP.After-one_if-2 b))
 
 pub returns-then-row-ge-PLANE_ROWS : goal.returns-then-row-ge-PLANE_ROWS
 returns-then-row-ge-PLANE_ROWS c =
@@ -72,7 +72,7 @@ pub returns : goal.returns
 returns c =
     (
       cells_added c.args.o c.args.x c.args.region c.args.row c.args.s c.args.plane.now c.is_at-is_annotation.result (told (goal.at.returns c).After-one_if-2) (low (goal.at.returns c).After-one_if-2)
-          (omega (arith, c.if-from-one_if-gt-PLANE_CELLS.left, output_one (goal.at.returns c).After-one_if-2, annotation_one (goal.at.returns c).After-one_if-2)) c.add_line_if-a.result c.add_line_if-b.result _ _ _
+          (omega (arith, c.if-from-one_if-gt-PLANE_CELLS.false, output_one (goal.at.returns c).After-one_if-2, annotation_one (goal.at.returns c).After-one_if-2)) c.add_line_if-a.result c.add_line_if-b.result _ _ _
           c.add_line_if-a.ensures.cells c.add_line_if-b.ensures.cells c.put_cell.ensures.cells c.column_if-output.ensures c.column_if-annotation.ensures,
       (
         record { few = omega (arith, room (goal.at.returns c).After-add_line_if-b); low = λ z. low (goal.at.returns c).After-one_if-2 },

@@ -14,4 +14,4 @@ put_text-requires c =
     present-fits c.requires.parts.0 _ _ _ c.requires.parts.1.0 c.requires.parts.1.1 c.if-slots-slot-eq-ABSENT.false c.wide-a.ensures c.wide-n.ensures _ c.part.ensures _ _ c.requires.fits
 
 pub returns : goal.returns
-returns c = let w = present_part c.requires.parts.0 _ _ _ c.requires.parts.1.0 c.requires.parts.1.1 c.if-slots-slot-eq-ABSENT.false c.wide-a.ensures c.wide-n.ensures _ c.part.ensures _ _ _ _ c.put_text.ensures in record { value = w.0; out_after = w.1 }
+returns c = let w = present_part c.requires.parts.0 _ _ _ c.requires.parts.1.0 c.requires.parts.1.1 c.if-slots-slot-eq-ABSENT.false c.wide-a.ensures c.wide-n.ensures _ c.part.ensures _ _ _ _ (c.put_text.ensures.value, c.put_text.ensures.out_after) in record { value = w.0; out_after = w.1 }

@@ -14,9 +14,9 @@ returns-then-last-eq-LIGHT_UP_AND_LEFT c =
     let i = c.loop-p.inv in
     let h = c.loop-p-test.taken in
     let l = c.line_at-l.ensures in (
-      measuring_last i.0 l.line h c.larger-columns.ensures c.if-count-gt0.taken c.if-last-eq-LIGHT_UP_AND_LEFT.true,
+      measuring_last i.0 l.line h c.larger-columns.ensures c.if-count-gt0.true c.if-last-eq-LIGHT_UP_AND_LEFT.true,
       (
-        keeping_last i.1.0 l.line c.if-count-gt0.taken c.requires.2 c.keep_line.ensures c.keep_line.auto.lines c.if-last-eq-LIGHT_UP_AND_LEFT.true,
+        keeping_last i.1.0 l.line c.if-count-gt0.true c.requires.2 c.keep_line.ensures c.keep_line.auto.lines c.if-last-eq-LIGHT_UP_AND_LEFT.true,
         (valid_more i.1.1 h l.valid).same,
       ),
     )
@@ -30,9 +30,9 @@ loop-p-preserved-else-last-eq-LIGHT_UP_AND_LEFT c =
     let i = c.loop-p.inv in
     let h = c.loop-p-test.taken in
     let l = c.line_at-l.ensures in (
-      measuring_more i.0 l.line h c.larger-columns.ensures c.if-count-gt0.taken c.if-last-eq-LIGHT_UP_AND_LEFT.false,
+      measuring_more i.0 l.line h c.larger-columns.ensures c.if-count-gt0.true c.if-last-eq-LIGHT_UP_AND_LEFT.false,
       (
-        keeping_more i.1.0 l.line c.if-count-gt0.taken c.requires.2 c.keep_line.ensures c.keep_line.auto.lines c.if-last-eq-LIGHT_UP_AND_LEFT.false,
+        keeping_more i.1.0 l.line c.if-count-gt0.true c.requires.2 c.keep_line.ensures c.keep_line.auto.lines c.if-last-eq-LIGHT_UP_AND_LEFT.false,
         valid_more i.1.1 h l.valid,
       ),
     )

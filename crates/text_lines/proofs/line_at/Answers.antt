@@ -6,4 +6,4 @@ pub returns : goal.returns
 returns c =
     let k = c.skip_white-from.ensures in
     let r = c.line_rest-r.ensures in
-    (line_of k.0 k.1 k.2 r.rest, valid_of k.3 r.valid)
+    record { line = line_of k.0 k.1 k.2 r.rest; valid = valid_of k.3 r.valid }

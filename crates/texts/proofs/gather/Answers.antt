@@ -13,7 +13,7 @@ put_text-e-requires c = gathering_room c.loop-k.invariant c.loop-k-test.true
 
 pub returns-then-e-gt-TEXT_BYTES : goal.returns-then-e-gt-TEXT_BYTES
 returns-then-e-gt-TEXT_BYTES c =
-    (gathering_over c.loop-k.invariant c.loop-k-test.true c.put_text-e.ensures (omega (arith, c.if-e-gt-TEXT_BYTES.true)), tt)
+    record { answer = gathering_over c.loop-k.invariant c.loop-k-test.true c.put_text-e.ensures (omega (arith, c.if-e-gt-TEXT_BYTES.true)); spans = tt }
 
 pub overflow_sub-spans : goal.overflow_sub-spans
 overflow_sub-spans c = omega (arith, gathering_back c.loop-k.invariant c.loop-k-test.true c.put_text-e.ensures c.if-e-gt-TEXT_BYTES.false)
@@ -26,4 +26,4 @@ loop-k-preserved c =
     gathering_more c.loop-k.invariant c.loop-k-test.true c.put_text-e.ensures c.if-e-gt-TEXT_BYTES.false c.put_text-e.auto.bytes
 
 pub returns : goal.returns
-returns c = let i = c.loop-k.invariant in (gathering_texts i c.loop-k-test.false, gathering_spans i c.loop-k-test.false)
+returns c = let i = c.loop-k.invariant in record { answer = gathering_texts i c.loop-k-test.false; spans = gathering_spans i c.loop-k-test.false }
