@@ -16,7 +16,7 @@ loop-k-init c = turning_start _ _ _
 
 -- the place lies in each layer
 inside : (c : In-loop-k)
-    → Inside (place c) c.args.text.now c.args.thins.now c.args.bodies.now c.args.grid.now
+    → Inside (c.args.base + c.loop-k.k * c.args.stride) c.args.text.now c.args.thins.now c.args.bodies.now c.args.grid.now
 inside c = c.requires.by_index c.loop-k.k c.loop-k-test.true
 
 pub overflow_mul-k : goal.overflow_mul-k
@@ -27,8 +27,7 @@ overflow_add-base c = omega (arith, inside (goal.at.overflow_add-base c).In-loop
 
 pub carry_at-requires : goal.carry_at-requires
 carry_at-requires c =
-    let p = c.requires.1 in
-    (omega (arith, inside (goal.at.carry_at-requires c).In-loop-k), (omega (arith, p.0), p.1))
+    record { at_in_bounds = omega (arith, inside (goal.at.carry_at-requires c).In-loop-k); k_lt_n = omega (arith, c.requires.n_bound); line_stays = c.requires.line_stays }
 
 pub loop-k-preserved : goal.loop-k-preserved
 loop-k-preserved c =

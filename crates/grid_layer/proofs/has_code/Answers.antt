@@ -14,7 +14,7 @@ pub loop-k-init : goal.loop-k-init
 loop-k-init c = (search rules, any_none _)
 
 inside : (c : In-loop-k)
-    → c.before.before.args.base + c.before.loop.k * c.before.before.args.stride < length c.before.before.args.s.now
+    → c.args.base + c.loop-k.k * c.args.stride < length c.args.s.now
 inside c = c.requires c.loop-k.k c.loop-k-test.true
 
 pub overflow_mul-k : goal.overflow_mul-k

@@ -8,17 +8,15 @@ use Rattle.body_layer.proofs.SizeLaws.{layers_again, corner_in_lem, rows_in_lem,
 use Rattle.grid_layer.proofs.CarryLaws.{across_stays, down_stays}
 use Rattle.grid_layer.proofs.GridLaws.{grid-canvas}
 use Rattle.grid_layer.proofs.make_grid.Goals as goal
-use Rattle.grid_layer.proofs.make_grid.Goals.{After-carry_lines, After-copy_layer, Start}
+use Rattle.grid_layer.proofs.make_grid.Goals.{After-carry_lines, After-copy_layer}
 
--- the layers at entry, with g for GRID
-abbrev Layers : Start → List ℕ → Type 0
-Layers c g = LayersOf c.args.width c.args.rows c.args.text.now c.args.thins.now c.args.bodies.now g
-
-copied : (c : After-copy_layer) → Layers (UP.Start c) c.copy_layer.new.dst
+-- the layers at entry, with what stands in GRID
+copied : (c : After-copy_layer) → LayersOf c.args.width c.args.rows c.args.text.now c.args.thins.now c.args.bodies.now c.copy_layer.new.dst
 copied c = layers_again c.requires.0 _ c.copy_layer.auto.dst
 
-carried : (c : After-carry_lines) → Layers (UP.Start c) c.carry_lines.new.grid
-carried c = layers_again (copied (UP.After-copy_layer c)) _ c.carry_lines.auto.grid
+carried : (c : After-carry_lines) → LayersOf c.args.width c.args.rows c.args.text.now c.args.thins.now c.args.bodies.now c.copy_layer.new.dst
+    → LayersOf c.args.width c.args.rows c.args.text.now c.args.thins.now c.args.bodies.now c.carry_lines.new.grid
+carried c l = layers_again l _ c.carry_lines.auto.grid
 
 corner : (c : After-copy_layer) → c.args.r.top * c.args.width + c.args.r.left < length c.args.grid.now
 corner c = corner_in_lem c.requires.1 c.args.grid.now c.requires.0.grid
@@ -36,11 +34,11 @@ carry_lines-requires c =
 pub carry_lines-requires-2 : goal.carry_lines-requires-2
 carry_lines-requires-2 c =
     let p = c.requires in
-    record { by_index = columns_in p.1 (carried (goal.at.carry_lines-requires-2 c).After-carry_lines); n_nonzero = omega arith; line_stays = down_stays }
+    record { by_index = columns_in p.1 (carried (goal.at.carry_lines-requires-2 c).After-carry_lines (copied (goal.at.carry_lines-requires-2 c).After-copy_layer)); n_nonzero = omega arith; line_stays = down_stays }
 
 pub returns : goal.returns
 returns c =
     let a = c.args in
     let p = c.requires in
-    grid-canvas a.width a.rows a.r p.1 a.bodies.now a.grid.now _ _ _ p.0.body (copied (goal.at.returns c).After-copy_layer).grid (carried (goal.at.returns c).After-carry_lines).grid
+    grid-canvas a.width a.rows a.r p.1 a.bodies.now a.grid.now _ _ _ p.0.body (copied (goal.at.returns c).After-copy_layer).grid (carried (goal.at.returns c).After-carry_lines (copied (goal.at.returns c).After-copy_layer)).grid
     c.copy_layer.ensures c.carry_lines.ensures c.carry_lines-2.ensures

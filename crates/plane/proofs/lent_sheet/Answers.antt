@@ -25,9 +25,9 @@ upright_sheet-requires c =
 
 pub returns-in-Rows : goal.returns-in-Rows
 returns-in-Rows c =
-    (lent_stated (lent (goal.at.returns-in-Rows c).In-Rows) (record { plane = plane_in ((c.load.new.plane)) c.in-Rows.n; texts = texts_in c.args.bytes.now ((c.load.new.spans)) (length c.args.offsets.now) }) (told (goal.at.returns-in-Rows c).In-Rows) _ c.upright_sheet.ensures.sheet, c.upright_sheet.ensures.held)
+    record { sheet = lent_stated (lent (goal.at.returns-in-Rows c).In-Rows) (record { plane = plane_in ((c.load.new.plane)) c.in-Rows.n; texts = texts_in c.args.bytes.now ((c.load.new.spans)) (length c.args.offsets.now) }) (told (goal.at.returns-in-Rows c).In-Rows) _ c.upright_sheet.ensures.sheet; held = c.upright_sheet.ensures.held }
 
 pub returns-in-NotLoaded : goal.returns-in-NotLoaded
 returns-in-NotLoaded c =
     let a = c.args in
-    (not_lent _ _ (ap (λ (m : Loaded). loaded_in m c.load.new.plane a.bytes.now c.load.new.spans (length a.offsets.now)) (sym c.in-NotLoaded.is) ∙ c.load.ensures.loaded), tt)
+    record { sheet = not_lent _ _ (ap (λ (m : Loaded). loaded_in m c.load.new.plane a.bytes.now c.load.new.spans (length a.offsets.now)) (sym c.in-NotLoaded.is) ∙ c.load.ensures.loaded); held = tt }

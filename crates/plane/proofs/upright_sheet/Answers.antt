@@ -16,7 +16,7 @@ oriented c = ap oriented_in (sym c.in-Sheet.is) ∙ c.orient.ensures
 
 pub returns-in-NotOriented : goal.returns-in-NotOriented
 returns-in-NotOriented c =
-    (not_oriented _ _ _ (ap oriented_in (sym c.in-NotOriented.is) ∙ c.orient.ensures), tt)
+    record { sheet = not_oriented _ _ _ (ap oriented_in (sym c.in-NotOriented.is) ∙ c.orient.ensures); held = tt }
 
 pub upright-requires : goal.upright-requires
 upright-requires c =
@@ -25,8 +25,8 @@ upright-requires c =
 pub returns-in-Rows : goal.returns-in-Rows
 returns-in-Rows c =
     let e = ap (λ (m : Turned). turned_in m c.upright.new.out) (sym c.in-Rows.is) ∙ c.upright.ensures.turned in
-    (upright _ _ _ (oriented (goal.at.returns-in-Rows c).In-Sheet) _ e, upright-held _ _ _ _ _ _ _ _ c.requires.0 e (subst (λ (m : Turned). TurnedFits m c.upright.new.out) c.in-Rows.is c.upright.ensures.fits))
+    record { sheet = upright _ _ _ (oriented (goal.at.returns-in-Rows c).In-Sheet) _ e; held = upright-held _ _ _ _ _ _ _ _ c.requires.0 e (subst (λ (m : Turned). TurnedFits m c.upright.new.out) c.in-Rows.is c.upright.ensures.fits) }
 
 pub returns-in-NotTurned : goal.returns-in-NotTurned
 returns-in-NotTurned c =
-    (not_upright _ _ _ (oriented (goal.at.returns-in-NotTurned c).In-Sheet) _ (ap (λ (m : Turned). turned_in m c.upright.new.out) (sym c.in-NotTurned.is) ∙ c.upright.ensures.turned), tt)
+    record { sheet = not_upright _ _ _ (oriented (goal.at.returns-in-NotTurned c).In-Sheet) _ (ap (λ (m : Turned). turned_in m c.upright.new.out) (sym c.in-NotTurned.is) ∙ c.upright.ensures.turned); held = tt }

@@ -50,4 +50,4 @@ loop-p-preserved c =
 pub returns : goal.returns
 returns c =
     let i = c.loop-p.invariant in
-    (measuring_end i.0 c.loop-p-test.false, (keeping_end i.1.0 c.loop-p-test.false, i.1.1.same))
+    record { measured = measuring_end i.0 c.loop-p-test.false; kept = keeping_end i.1.0 c.loop-p-test.false; valid = i.1.1.same }

@@ -10,7 +10,7 @@ loop-at-init c = (seeking_start _ _ c.requires, valid_start _ _)
 pub returns-then-l-eq-LIGHT_DOWN_AND_RIGHT : goal.returns-then-l-eq-LIGHT_DOWN_AND_RIGHT
 returns-then-l-eq-LIGHT_DOWN_AND_RIGHT c =
     let i = c.loop-at.invariant in
-    (seeking_found i.0 c.line_head-l.ensures.head c.if-l-eq-LIGHT_DOWN_AND_RIGHT.true, i.1)
+    record { start = seeking_found i.0 c.line_head-l.ensures.head c.if-l-eq-LIGHT_DOWN_AND_RIGHT.true; valid = i.1 }
 
 pub loop-at-smaller : goal.loop-at-smaller
 loop-at-smaller c =
@@ -23,4 +23,4 @@ loop-at-preserved c =
     (seeking_more i.0 l.head c.if-l-eq-LIGHT_DOWN_AND_RIGHT.false, valid_more i.1 c.loop-at-test.true l.valid)
 
 pub returns : goal.returns
-returns c = let i = c.loop-at.invariant in (seeking_end i.0 c.loop-at-test.false, i.1)
+returns c = let i = c.loop-at.invariant in record { start = seeking_end i.0 c.loop-at-test.false; valid = i.1 }

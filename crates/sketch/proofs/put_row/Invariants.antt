@@ -4,7 +4,7 @@ use Rattle.sketch.proofs.LayerLaws.{Rowing}
 use Rattle.sketch.proofs.put_row.Given as goal
 
 abbrev pub invariant-loop-x : goal.invariant-loop-x
-invariant-loop-x l = Rowing l.initial.out l.at (canvas l.w l.h l.layer) l.w l.y l.x n l.n
+invariant-loop-x l = Rowing l.initial.out l.at (canvas l.w l.h l.layer) l.w l.y l.out l.n l.x
 
 abbrev pub decreases-loop-x : goal.decreases-loop-x
-decreases-loop-x l = l.w - l.n
+decreases-loop-x l = l.w - l.x
