@@ -1,4 +1,4 @@
-/* Fezandimo, the reader of fare sheets: the functions of the static library libexports.a (`rt staticlib exports`), on x86-64.
+/* Fezandimo, the reader of fare sheets: the functions of the static library libexports.a (tools/library builds it), on x86-64.
  *
  * Nothing is allocated and nothing is kept: the caller lends all memory, each slice as a pointer and the count of its elements.
  * A pointer is never null, also where the count is 0. A slice that is written to overlaps no other slice of the call.

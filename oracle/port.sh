@@ -1,6 +1,6 @@
-# Sourced by ./run, fuzz/run and ../bindings/run, from a folder of the repository: builds the port's static library and tells its folder in
-# PORT_LIB. Where PORT_LIB is set, the libexports.a of that folder is taken and none is built.
+# Sourced by ./run, fuzz/run, ../bench/run and ../bindings/run, from a folder of the repository: builds the port's static library and tells
+# its folder in PORT_LIB. Where PORT_LIB is set, the libexports.a of that folder is taken and none is built.
 if [ -z "${PORT_LIB:-}" ]; then
-  built=$(cd .. && rt staticlib exports) || { echo "$built" | tail -3; exit 1; }
-  export PORT_LIB="$PWD/../target/staticlib"
+  PORT_LIB=$(../tools/library)
+  export PORT_LIB
 fi

@@ -1,4 +1,4 @@
-//! Tells where the static library is: in PORT_LIB, or where `rt staticlib exports` writes it.
+//! Tells where the static library is: in PORT_LIB, or where ../../tools/library puts it.
 
 fn main() {
     println!("cargo:rerun-if-env-changed=PORT_LIB");

@@ -20,19 +20,19 @@ use Reach::{No, Open, Yes};
 
 /// The laws and definitions, by crate.
 const NOT_LENT: Reach =
-    No("builder SheetEnd.sheetEnd, which read_sheet promises: lentOf alone gives 26");
+    No("builder SheetEnd.sheet_end, which read_sheet promises: lent_of alone gives 26");
 const NOT_DRAWN: Reach = No(
-    "lent_builder LentEnd.lentEnd, which read_lent_plane promises: lentOf and statedPolicy give 8 to 26 alone",
+    "lent_builder LentEnd.lent_end, which read_lent_plane promises: lent_of and stated_policy give 8 to 26 alone",
 );
-const NOT_SPLIT: Reach = No("utils Split.splitOf, which split_values promises: 1 and 27 alone");
+const NOT_SPLIT: Reach = No("utils Split.split_of, which split_values promises: 1 and 27 alone");
 const NO_SPLIT: Reach = No("an answer of the split");
-const TWO_SIZES: Reach = No("clauses OnlyTwoSizes.only-two-sizes: checks 8 and 12 alone");
-const FOUR: Reach = No("lent_builder LentEnd.lentSizes: four work slices");
-const SIX: Reach = No("builder SheetEnd.sheetSizes: six work slices");
+const TWO_SIZES: Reach = No("clauses OnlyTwoSizes.only_two_sizes: checks 8 and 12 alone");
+const FOUR: Reach = No("lent_builder LentEnd.lent_sizes: four work slices");
+const SIX: Reach = No("builder SheetEnd.sheet_sizes: six work slices");
 const HAS_ROW: Reach =
-    No("policies DrawnNotEmpty.walked-not-empty: the main crossing has a line row");
+    No("policies DrawnNotEmpty.walked_not_empty: the main crossing has a line row");
 const HAS_CORNERS: Reach =
-    No("policies DrawnNotEmpty.drawn-placement: each row of a drawing's plane has cells");
+    No("policies DrawnNotEmpty.drawn_placement: each row of a drawing's plane has cells");
 const HAS_CELLS: Reach =
     No("policies DrawnNotEmpty.drawn-numbers: each row of a drawing's plane has cells");
 const ONE_LINE: Reach =
