@@ -1,3 +1,2 @@
 -- Laws of a cursor and of the walks that move it.
 pub mod CursorLaws
-pub mod Thin

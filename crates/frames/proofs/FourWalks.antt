@@ -3,9 +3,9 @@ use mathlib.Core.{Path.◌≡◌, Path.refl, Path.sym, Path.ap, Path.◌∙◌, 
 use Prim.Native.Nat.{ℕ, ◌+◌, ◌-◌}
 use Rattle.lists.{specs.Answer.ok, specs.Answer.refused, specs.Answer.◌>>=◌, specs.Answer.◌>>◌, specs.Picture.Picture}
 use Rattle.model.{specs.Refusals.Reading, specs.declared.Point.Point, specs.declared.Rect.Rect, specs.declared.Refusal.Refusal}
-use Rattle.walks.{specs.Frame.rect_of, specs.Frame.close_of, specs.Frame.frame_of, specs.Kinds.thin, specs.Kinds.grid, specs.Kinds.name, specs.Walk.steps_in, specs.declared.Direction.TheVariants.Right, specs.declared.Direction.TheVariants.Down, specs.declared.Direction.TheVariants.Left, specs.declared.Direction.TheVariants.Up, specs.declared.Walked.Walked, specs.declared.Walked.TheVariants.Steps, specs.declared.Walked.TheVariants.Stopped, proofs.FrameLaws.closed, proofs.FrameLaws.stops_right, proofs.FrameLaws.stops_down, proofs.FrameLaws.stops_left, proofs.FrameLaws.stops_up, proofs.FrameLaws.walked}
+use Rattle.walks.{specs.Frame.Place, specs.Frame.rect_of, specs.Frame.close_of, specs.Frame.frame_of, specs.Kinds.thin, specs.Kinds.grid, specs.Kinds.name, specs.Walk.steps_in, specs.declared.Direction.TheVariants.Right, specs.declared.Direction.TheVariants.Down, specs.declared.Direction.TheVariants.Left, specs.declared.Direction.TheVariants.Up, specs.declared.Walked.Walked, specs.declared.Walked.TheVariants.Steps, specs.declared.Walked.TheVariants.Stopped, proofs.FrameLaws.closed, proofs.FrameLaws.stops_right, proofs.FrameLaws.stops_down, proofs.FrameLaws.stops_left, proofs.FrameLaws.stops_up, proofs.FrameLaws.walked}
 use Rattle.along.{specs.Characters.kind_of, specs.Characters.along_of, specs.declared.Lines.Lines, specs.declared.Lines.TheVariants.Region, specs.declared.Lines.TheVariants.Rectangle, specs.declared.Lines.TheVariants.Name, specs.declared.Lines.TheVariants.Body}
-use Rattle.cursors.{specs.Cursor.point, specs.Cursor.place_after, proofs.CursorLaws.Moves, proofs.CursorLaws.came}
+use Rattle.cursors.{specs.Cursor.point, specs.Cursor.place_after, proofs.CursorLaws.Moves, proofs.CursorLaws.came, proofs.CursorLaws.stays}
 use Rattle.frames.specs.{Answers.all_of, Answers.closed_of, Body.body_of}
 
 -- what follows four walks
@@ -38,6 +38,16 @@ module _ (lines : Lines) (p : Picture) (w h x y : ℕ) where
       let m4' = subst (λ (z : Point). Moves lines p w h Up z e (Steps l)) (came lines p w h Left _ c (Steps k) m3') m4 in
       (λ u. close_of x y (came lines p w h Up _ e (Steps l) m4' u).x (came lines p w h Up _ e (Steps l) m4' u).y (came lines p w h Down _ b (Steps j) m2' u).x (came lines p w h Down _ b (Steps j) m2' u).y)
       ∙ sym (walked (kind_of lines) p w h x y i j k l (sym m1.1) (sym m2'.1) (sym m3'.1) (sym m4'.1))
+
+  -- each walk of them ends in the picture
+  pub in_right : (len : ℕ) (n1 : Walked) (a : Point) → Place w h x y len → Moves lines p w h Right (point x y) a n1 → Place w h a.x a.y len
+  in_right len n1 a i m1 = stays lines p w h Right (point x y) a n1 len m1 i
+
+  pub in_down : (len : ℕ) (n1 n2 : Walked) (a b : Point) → Place w h x y len → Moves lines p w h Right (point x y) a n1 → Moves lines p w h Down a b n2 → Place w h b.x b.y len
+  in_down len n1 n2 a b i m1 m2 = stays lines p w h Down a b n2 len m2 (in_right len n1 a i m1)
+
+  pub in_left : (len : ℕ) (n1 n2 n3 : Walked) (a b c : Point) → Place w h x y len → Moves lines p w h Right (point x y) a n1 → Moves lines p w h Down a b n2 → Moves lines p w h Left b c n3 → Place w h c.x c.y len
+  in_left len n1 n2 n3 a b c i m1 m2 m3 = stays lines p w h Left b c n3 len m3 (in_down len n1 n2 a b i m1 m2)
 
 -- to the sides of the body, from one place
 module _ (lines : Lines) (p : Picture) (w h x y : ℕ) where

@@ -1,3 +1,2 @@
 -- Laws of four walks of one cursor.
 pub mod FourWalks
-pub mod Chain

@@ -2,7 +2,7 @@
 use mathlib.Core.{Path.◌≡◌, Path.refl, Path.sym, Path.ap, Path.◌∙◌, Path.subst, Bool.Bool, Bool.true, Bool.false, Bool.◌&&◌, List.List, List.[], List.◌∷◌, List.◌++◌, List.append_assoc}
 use Prim.Native.Nat.{ℕ, zero, suc, ◌+◌, ◌-◌, ◌≤◌, ◌<◌}
 use native.Mathlib.{Nat.sub-zero, Nat.zero-add, Nat.add-zero, Numerals.add-one, Omega.arith}
-use lib.{Dec.ltb, Dec.leb, ListN.length, ListN.get_or, ListN.set, ListN.take, ListN.drop, ListN.length-append, ListN.length-drop, Seq.drop-cons, Seq.set-append_seam, Seq.take_at, Seq.get_or-take}
+use lib.{Dec.ltb, Dec.leb, ListN.length, ListN.get_or, ListN.set, ListN.take, ListN.drop, Seq.drop-cons, Seq.set-append_seam, Seq.take_at, Seq.get_or-take}
 use borrow.Author.Tests.{lt-ltb, le-ltb, ltb-true, ltb-false, leb-true}
 use Rattle.lists.{specs.Answer.ok, specs.Answer.refused, specs.Choose.choose, specs.Run.run, proofs.AnswerLaws.refused-ok, proofs.RunLaws.length_run, proofs.RunLaws.build-next, proofs.RunLaws.get_or-build, proofs.Tests.by_flag, proofs.Tests.both}
 use Rattle.model.{specs.Geometry.contains_of, specs.Refusals.Reading, specs.declared.Rect.Rect, specs.declared.Refusal.TheVariants.RegionNotFound}
@@ -119,9 +119,6 @@ module _ (l : List Rect) (d : List ℕ) where
   pub filled_none : filled l d 0 ≡ l
   unfolding run
   filled_none = refl
-
-  pub filled_length : (i : ℕ) → i ≤ length l → length (filled l d i) ≡ length l
-  filled_length i h = omega (arith, length-append (rects_of d i) (drop i l), length_run (rect_at d) 0 i, length-drop i l)
 
   pub filled_next : (i : ℕ) → i < length l → set (filled l d i) i (rect_at d i) ≡ filled l d (i + 1)
   filled_next i h =

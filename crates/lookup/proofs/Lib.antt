@@ -1,5 +1,3 @@
--- Laws of the first rect that contains a frame, and of frames that are numbered; and what the walks by hand share.
+-- Laws of the first rect that contains a frame, and of frames that are numbered.
 pub mod FirstLaws
 pub mod NumberLaws
-mod Rows
-mod Again

@@ -20,9 +20,6 @@ pub record Numbering (find : Finder) (nums : List ℕ) (n : ℕ) (d : List ℕ) 
   pub few : from ≤ n
   pub above : Above nums from (i / w + 1)
 
-pub numbering_start : (find : Finder) (nums : List ℕ) (n : ℕ) (d : List ℕ) (w h : ℕ) (found : List ℕ) → Numbering find nums n d w h found 0 0 found
-numbering_start find nums n d w h found = record { along = omega arith; long = cc; numbers = λ i l. absurd (omega arith); few = omega arith; above = λ j l. absurd (omega arith) }
-
 module _ {find : Finder} {nums : List ℕ} {n : ℕ} {d : List ℕ} {w h : ℕ} {start : List ℕ} {i from : ℕ} {found : List ℕ} (q : Numbering find nums n d w h start i from found) (less : i < h * w) (room : h * w ≤ length start)
     {s : Sought} (v : Seen find d w (h * w) i s) where
   -- a corner before the next one stands before place i
@@ -36,9 +33,6 @@ module _ {find : Finder} {nums : List ℕ} {n : ℕ} {d : List ℕ} {w h : ℕ} 
   row_on a b l =
       let z : a / w ≤ b / w = (le-div_iff_mul-le (columns w h i less)).1 (le_trans (div-mul-le_self a w) l) in
       omega arith
-
-  pub above_corner : Above nums from s.under
-  above_corner j l = le_trans (q.above j l) (rw v.under (row_on i s.at v.next.from))
 
   module _ (to : ℕ) (few : to ≤ n) (above : Above nums to s.under) (k : ℕ) (ke : k ≡ first_of (rects_of nums n) s.frame) (out : List ℕ) (next : ℕ) (t : Stored s (number_in s k n) (h * w) found out next) where
     above_on : s.at ≤ next → Above nums to (next / w + 1)
@@ -79,9 +73,3 @@ module _ {find : Finder} {nums : List ℕ} {n : ℕ} {d : List ℕ} {w h : ℕ} 
           omega (arith, f),
           record { along = omega (arith, f); long = len ∙ q.long; numbers = rw (e, f) (λ j b c. q.numbers j (before j (omega (arith, g)) c) c); few = few; above = above_on (omega (arith, f, g)) },
         ))
-
-pub numbering_end : {find : Finder} {nums : List ℕ} {n : ℕ} {d : List ℕ} {w h : ℕ} {start : List ℕ} {i from : ℕ} {found : List ℕ} → Numbering find nums n d w h start i from found → h * w ≤ i
-    → Numbered find (rects_of nums n) (canvas w h d) w (h * w) found
-numbering_end {find} {nums} {n} {d} {w} {h} {start} {i} {from} {found} q l =
-    let z : i ≡ h * w = omega (arith, q.along) in
-    subst (λ (m : ℕ). Numbered find (rects_of nums n) (canvas w h d) w m found) z q.numbers

@@ -1,5 +1,6 @@
 // The regions of THIN, in row order, as rects in a slice of four numbers each.
 #![tactic(auto)]
+
 ghost use Rattle.std.specs.Prelude.{◌≡◌, [], ◌+◌, ◌*◌, ◌<◌, ◌≤◌, length};
 ghost use Rattle.lists.specs.Answer.{each};
 ghost use Rattle.lists.specs.OneOf.{any_at};

@@ -1,8 +1,9 @@
 -- `lookup::live` meets its contract.
 use mathlib.Core.Path.{subst}
-use Prim.Native.Nat.{◌-◌, ◌≤◌}
+use Prim.Native.Nat.{◌≤◌}
 use native.Mathlib.Omega.{arith}
 use Rattle.model.specs.declared.Rect.{Rect}
+use Rattle.lookup.proofs.FirstLaws.{above_next}
 use Rattle.lookup.proofs.live.Goals as goal
 
 pub loop-at-init : goal.loop-at-init

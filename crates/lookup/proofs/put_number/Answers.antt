@@ -3,6 +3,7 @@ use mathlib.Core.Path.{refl, ap}
 use lib.ListN.{set}
 use Prim.Native.Nat.{ℕ}
 use native.Mathlib.Omega.{arith}
+use Rattle.lookup.proofs.NumberLaws.{number_small}
 use Rattle.lookup.proofs.put_number.Goals as goal
 
 pub returns-then-size-at : goal.returns-then-size-at

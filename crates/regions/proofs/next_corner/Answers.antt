@@ -1,6 +1,5 @@
 -- `regions::next_corner` meets its contract.
 use mathlib.Core.Path.{sym, ◌∙◌}
-use Prim.Native.Nat.{◌-◌}
 use Rattle.regions.proofs.CornerLaws.{seeking_more, seeking_found, seeking_end}
 use Rattle.regions.proofs.next_corner.Goals as goal
 

@@ -1,5 +1,4 @@
 -- `regions::regions_within` meets its contract.
-use Prim.Native.Nat.{◌-◌}
 use Rattle.regions.proofs.RegionLaws.{adding_start, adding_more, adding_out, adding_end}
 use native.Mathlib.Omega.{arith}
 use Rattle.regions.proofs.regions_within.Goals as goal

@@ -1,6 +1,5 @@
 -- `regions::skip_fours` meets its contract.
 use mathlib.Core.Path.{sym, ◌∙◌}
-use Prim.Native.Nat.{◌-◌}
 use Rattle.regions.proofs.CornerLaws.{seeking_start, seeking_four}
 use Rattle.regions.proofs.skip_fours.Goals as goal
 

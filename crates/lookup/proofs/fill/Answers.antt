@@ -1,0 +1,22 @@
+-- `lookup::fill` meets its contract.
+use mathlib.Core.Path.{sym, ap, ◌∙◌}
+use native.Mathlib.Omega.{arith}
+use lib.ListN.{set}
+use Rattle.model.specs.declared.Rect.{Rect}
+use mathlib.Core.List.{List}
+use Rattle.lookup.proofs.FirstLaws.{filled, filled_none, filled_next}
+use Rattle.lookup.proofs.fill.Goals as goal
+
+pub loop-i-init : goal.loop-i-init
+loop-i-init c = (omega arith, sym (filled_none c.args.rects.now c.args.nums.now))
+
+pub loop-i-preserved : goal.loop-i-preserved
+loop-i-preserved c =
+    let l = c.loop-i in
+    let old = c.args.rects.now in
+    let d = c.args.nums.now in (
+      omega (arith, c.loop-i-test.true),
+      ap (λ (t : List Rect). set t l.i c.rect_at-r.result) l.invariant.1
+          ∙ ap (set (filled old d l.i) l.i) c.rect_at-r.ensures
+          ∙ filled_next old d l.i (omega (arith, c.loop-i-test.true, c.requires.0)),
+    )

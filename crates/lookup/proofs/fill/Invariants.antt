@@ -1,0 +1,10 @@
+-- The rects before place i are those of the numbers, and the others are the old ones.
+use Rattle.std.proofs.Common.{◌-◌, ◌≡◌, ◌≤◌}
+use Rattle.lookup.proofs.FirstLaws.{filled}
+use Rattle.lookup.proofs.fill.Given as goal
+
+abbrev pub invariant-loop-i : goal.invariant-loop-i
+invariant-loop-i l = (l.i ≤ l.count) × (l.rects ≡ filled l.initial.rects l.nums l.i)
+
+abbrev pub decreases-loop-i : goal.decreases-loop-i
+decreases-loop-i l = l.count - l.i

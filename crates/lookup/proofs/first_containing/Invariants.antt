@@ -1,0 +1,10 @@
+-- The search has come to rect i.
+use Rattle.std.proofs.Common.{◌-◌}
+use Rattle.lookup.proofs.FirstLaws.{Searching}
+use Rattle.lookup.proofs.first_containing.Given as goal
+
+abbrev pub invariant-loop-i : goal.invariant-loop-i
+invariant-loop-i l = Searching l.frame l.rects l.count l.i
+
+abbrev pub decreases-loop-i : goal.decreases-loop-i
+decreases-loop-i l = l.count - l.i
