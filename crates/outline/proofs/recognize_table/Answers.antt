@@ -33,14 +33,14 @@ crossing_right-requires c = spot (goal.at.crossing_right-requires c).Start
 
 pub crossed-right-requires : goal.crossed-right-requires
 crossed-right-requires c =
-    walk_fits _ _ _ _ (c.args.cross % c.args.w) c.crossing_right.result (omega (arith, (spot (goal.at.crossed-right-requires c).Start).column, c.fits.w.fits)) c.crossing_right.ensures
+    walk_fits _ _ _ _ (c.args.cross % c.args.w) c.crossing_right.result (omega (arith, (spot (goal.at.crossed-right-requires c).Start).column, c.ranges.w.fits)) c.crossing_right.ensures
 
 pub crossing_below-requires : goal.crossing_below-requires
 crossing_below-requires c = spot (goal.at.crossing_below-requires c).Start
 
 pub crossed-below-requires : goal.crossed-below-requires
 crossed-below-requires c =
-    walk_fits _ _ _ _ (c.args.cross / c.args.w) c.crossing_below.result (omega (arith, (spot (goal.at.crossed-below-requires c).Start).row, c.fits.h.fits)) c.crossing_below.ensures
+    walk_fits _ _ _ _ (c.args.cross / c.args.w) c.crossing_below.result (omega (arith, (spot (goal.at.crossed-below-requires c).Start).row, c.ranges.h.fits)) c.crossing_below.ensures
 
 pub returns : goal.returns
 returns c =

@@ -11,10 +11,10 @@ pub known-d-requires : goal.known-d-requires
 known-d-requires c = putting_stands c.loop-i.invariant c.loop-i-test.true c.requires.0
 
 pub overflow_add-p : goal.overflow_add-p
-overflow_add-p c = omega (arith, putting_fits c.loop-i.inv c.known-d.ensures)
+overflow_add-p c = omega (arith, putting_fits c.loop-i.invariant c.known-d.ensures)
 
 pub loop-i-preserved : goal.loop-i-preserved
-loop-i-preserved c = putting_more c.loop-i.inv c.known-d.ensures c.loop-i-test.true c.requires.1
+loop-i-preserved c = putting_more c.loop-i.invariant c.known-d.ensures c.loop-i-test.true c.requires.1
 
 pub returns : goal.returns
 returns c = putting_done c.loop-i.invariant c.loop-i-test.false

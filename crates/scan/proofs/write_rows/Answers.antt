@@ -21,7 +21,7 @@ loop-r-init c =
 
 -- the row of a turn, and those behind it
 row : (c : In-loop-r)
-    → drop c.before.loop.r (all c.before) ≡ row_in c.args.s.now c.args.lines.now c.loop-r.r ∷ drop (c.loop-r.r + 1) (rows_in c.args.s.now c.args.lines.now c.args.rows)
+    → drop c.loop-r.r (rows_in c.args.s.now c.args.lines.now c.args.rows) ≡ row_in c.args.s.now c.args.lines.now c.loop-r.r ∷ drop (c.loop-r.r + 1) (rows_in c.args.s.now c.args.lines.now c.args.rows)
 row c = let a = c.args in drop-build a.rows (row_in a.s.now a.lines.now) c.loop-r.r c.loop-r-test.true
 
 pub put_row-requires : goal.put_row-requires
@@ -51,4 +51,4 @@ returns c =
     let i = c.loop-r.invariant in
     let a = c.args in
     let e = drop_build_end a.rows (row_in a.s.now a.lines.now) c.loop-r.r c.loop-r-test.false in
-    (writing_end i.0 e ∙ text-layer _ _ _, writing_end i.1 e)
+    record { text = writing_end i.0 e ∙ text-layer _ _ _; body = writing_end i.1 e }

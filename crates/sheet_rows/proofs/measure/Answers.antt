@@ -11,24 +11,18 @@ loop-p-init c = (measuring_start _ _ c.requires.0, (keeping_start _ _ _, record 
 
 pub returns-then-last-eq-LIGHT_UP_AND_LEFT : goal.returns-then-last-eq-LIGHT_UP_AND_LEFT
 returns-then-last-eq-LIGHT_UP_AND_LEFT c =
-    let i = c.loop-p.inv in
-    let h = c.loop-p-test.taken in
-    let l = c.line_at-l.ensures in (
-      measuring_last i.0 l.line h c.larger-columns.ensures c.if-count-gt0.true c.if-last-eq-LIGHT_UP_AND_LEFT.true,
-      (
-        keeping_last i.1.0 l.line c.if-count-gt0.true c.requires.2 c.keep_line.ensures c.keep_line.auto.lines c.if-last-eq-LIGHT_UP_AND_LEFT.true,
-        (valid_more i.1.1 h l.valid).same,
-      ),
-    )
+    let i = c.loop-p.invariant in
+    let h = c.loop-p-test.true in
+    let l = c.line_at-l.ensures in record { measured = measuring_last i.0 l.line h c.larger-columns.ensures c.if-count-gt0.true c.if-last-eq-LIGHT_UP_AND_LEFT.true; kept = keeping_last i.1.0 l.line c.if-count-gt0.true c.requires.2 c.keep_line.ensures c.keep_line.auto.lines c.if-last-eq-LIGHT_UP_AND_LEFT.true; valid = (valid_more i.1.1 h l.valid).same }
 
 pub loop-p-smaller-else-last-eq-LIGHT_UP_AND_LEFT : goal.loop-p-smaller-else-last-eq-LIGHT_UP_AND_LEFT
 loop-p-smaller-else-last-eq-LIGHT_UP_AND_LEFT c =
-    omega (arith, c.line_at-l.ensures.line.further c.loop-p-test.taken)
+    omega (arith, c.line_at-l.ensures.line.further c.loop-p-test.true)
 
 pub loop-p-preserved-else-last-eq-LIGHT_UP_AND_LEFT : goal.loop-p-preserved-else-last-eq-LIGHT_UP_AND_LEFT
 loop-p-preserved-else-last-eq-LIGHT_UP_AND_LEFT c =
-    let i = c.loop-p.inv in
-    let h = c.loop-p-test.taken in
+    let i = c.loop-p.invariant in
+    let h = c.loop-p-test.true in
     let l = c.line_at-l.ensures in (
       measuring_more i.0 l.line h c.larger-columns.ensures c.if-count-gt0.true c.if-last-eq-LIGHT_UP_AND_LEFT.false,
       (

@@ -14,7 +14,7 @@ use Rattle.slot_runs.proofs.put_values.Goals.{After-put_rewritten-r, In-Marked}
 
 -- the default is measured
 marked : (c : In-Marked)
-    → MarkedIn (start c).args.bytes.now (start c).args.p c.before.n.given.0.0 c.before.n.given.0.1.0 c.before.n.given.0.1.1.0
+    → MarkedIn c.args.bytes.now c.args.p c.in-Marked.n c.in-Marked.a c.in-Marked.b
 marked c =
     marked_in c.args.bytes.now c.args.p c.requires.1 _ _ _ (rw c.in-Marked.is at c.measure_values.ensures)
 

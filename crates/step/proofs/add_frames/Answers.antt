@@ -14,7 +14,7 @@ use Rattle.step.proofs.add_frames.Goals as goal
 use Rattle.step.proofs.add_frames.Goals.{After-make_row}
 
 -- the row's cells fit
-fits : (m : After-make_row) {t : RowSofar} → m.make_row.result ≡ Cells t → RowFit t m.args.s.rows
+fits : (m : After-make_row) {t : RowSofar} → m.make-row.result ≡ Cells t → RowFit t (start m).args.s.rows
 fits m z = subst (λ (r : RowMade). RowFits r m.args.s.rows) z m.make_row.ensures.fits
 
 pub make_row-requires : goal.make_row-requires

@@ -12,7 +12,7 @@ periods_of-k-requires c = ((part_sizes c.first_marked-f.ensures c.if-f.true).0, 
 
 pub measure-requires : goal.measure-requires
 measure-requires c =
-    (part_sizes c.first_marked-f.ensures c.if-f.true, c.periods_of-k.ensures)
+    record { p_nonzero = part_sizes c.first_marked-f.ensures c.if-f.true; periods = c.periods_of-k.ensures }
 
 pub returns-then-f : goal.returns-then-f
 returns-then-f c = measured_marked c.first_marked-f.ensures c.if-f.true c.measure.ensures

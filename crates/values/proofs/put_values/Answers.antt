@@ -13,14 +13,14 @@ periods_of-k-requires c = ((part_sizes c.first_marked-f.ensures c.if-f.true).0, 
 pub rewrite-requires : goal.rewrite-requires
 rewrite-requires c =
     let found = c.first_marked-f.ensures in
-    (((part_sizes found c.if-f.true).0, rw (allowed-marked found c.if-f.true) at c.requires), c.periods_of-k.ensures)
+    record { p_nonzero = ((part_sizes found c.if-f.true).0, rw (allowed-marked found c.if-f.true) at c.requires); periods = c.periods_of-k.ensures }
 
 pub returns-then-f : goal.returns-then-f
-returns-then-f c = let w = rw (allowed-marked c.first_marked-f.ensures c.if-f.true) c.rewrite.ensures in record { value = w.0; out_after = w.1 }
+returns-then-f c = record { value = rw (allowed-marked c.first_marked-f.ensures c.if-f.true) c.rewrite.ensures.value; out_after = rw (allowed-marked c.first_marked-f.ensures c.if-f.true) c.rewrite.ensures.out_after }
 
 pub put_bytes-requires : goal.put_bytes-requires
 put_bytes-requires c =
     rw (allowed-plain c.first_marked-f.ensures c.if-f.false) at c.requires
 
 pub returns : goal.returns
-returns c = let w = rw (allowed-plain c.first_marked-f.ensures c.if-f.false) (refl, c.put_bytes.ensures) in record { value = w.0; out_after = w.1 }
+returns c = record { value = rw (allowed-plain c.first_marked-f.ensures c.if-f.false) refl; out_after = rw (allowed-plain c.first_marked-f.ensures c.if-f.false) c.put_bytes.ensures }
