@@ -89,13 +89,6 @@ searching_start f l n (suc i) h g a =
     subst (Searching f l n) (add-one i)
     (searching_more (searching_start f l n i (omega arith) g (λ j b. a j (omega arith))) (omega arith) g (a i (omega arith)))
 
-pub above_next : (d : List ℕ) (n row : ℕ) → Above d n row → (rect_at d n).bottom ≤ row → Above d (n + 1) row
-above_next d n row a e j h =
-    by_flag (ltb j n) (λ y. a j (ltb-true j n y))
-    (λ z.
-    let k : n ≡ j = omega (arith, ltb-false j n z) in
-    subst (λ (m : ℕ). (rect_at d m).bottom ≤ row) k e)
-
 -- a rect that ends at or above a row contains no frame that ends below it
 above_apart : (r f : Rect) (row : ℕ) → r.bottom ≤ row → row < f.bottom → contains_of r f ≡ false
 above_apart r f row a b =
