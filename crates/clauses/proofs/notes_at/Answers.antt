@@ -16,12 +16,9 @@ pub returns-in-At : goal.returns-in-At
 returns-in-At c =
     let e = c.in-At.is in
     let w = rw e at c.requires.1 in
-    (c.notes_behind.ensures.notes ∙ ap (λ p. notes_at (plane_in c.args.plane.now c.args.rows) (place_in p)) (sym e), rw w.1 at c.notes_behind.ensures.fit)
+    record { notes = c.notes_behind.ensures.notes ∙ ap (λ p. notes_at (plane_in c.args.plane.now c.args.rows) (place_in p)) (sym e); fit = rw w.1 at c.notes_behind.ensures.fit }
 
 pub returns-in-Nowhere : goal.returns-in-Nowhere
 returns-in-Nowhere c =
     let e = c.in-Nowhere.is in
-    (
-      no_notes _ _ ∙ ap (λ p. notes_at (plane_in c.args.plane.now c.args.rows) (place_in p)) (sym e),
-      (omega (arith, c.requires.2), omega arith, omega arith),
-    )
+    record { notes = no_notes _ _ ∙ ap (λ p. notes_at (plane_in c.args.plane.now c.args.rows) (place_in p)) (sym e); fit = (omega (arith, c.requires.2), omega arith, omega arith) }

@@ -20,7 +20,7 @@ cell_at-requires c =
 pub returns-then-same_kind : goal.returns-then-same_kind
 returns-then-same_kind c =
     let e = ap (same_kind c.args.kind) (sym c.cell_at.ensures.cell) ∙ sym c.same_kind.ensures ∙ c.if-same_kind.true in
-    (row-found c.loop-x.invariant c.loop-x-test.true e, (omega arith, omega (arith, c.loop-x-test.true, c.requires.cells c.args.y (omega arith))))
+    record { spot = row-found c.loop-x.invariant c.loop-x-test.true e; within = (omega arith, omega (arith, c.loop-x-test.true, c.requires.cells c.args.y (omega arith))) }
 
 pub overflow_add-x : goal.overflow_add-x
 overflow_add-x c =
@@ -32,4 +32,4 @@ loop-x-preserved c =
     (ap (same_kind c.args.kind) (sym c.cell_at.ensures.cell) ∙ sym c.same_kind.ensures ∙ c.if-same_kind.false)
 
 pub returns : goal.returns
-returns c = (row_end c.loop-x.invariant c.loop-x-test.false, tt)
+returns c = record { spot = row_end c.loop-x.invariant c.loop-x-test.false; within = tt }

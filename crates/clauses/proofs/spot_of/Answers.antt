@@ -15,11 +15,11 @@ pub returns-in-At : goal.returns-in-At
 returns-in-At c =
     let e = c.in-At.is in
     let w = rw e at c.spot_in_row.ensures.within in
-    (rows-found c.loop-y.invariant c.loop-y-test.true (rw e at c.spot_in_row.ensures.spot), (omega (arith, w.0, c.loop-y-test.true), w.1))
+    record { spot = rows-found c.loop-y.invariant c.loop-y-test.true (rw e at c.spot_in_row.ensures.spot); within = (omega (arith, w.0, c.loop-y-test.true), w.1) }
 
 pub loop-y-preserved : goal.loop-y-preserved
 loop-y-preserved c =
     rows_next c.loop-y.invariant c.loop-y-test.true (rw c.in-Nowhere.is at c.spot_in_row.ensures.spot)
 
 pub returns : goal.returns
-returns c = (rows_end c.loop-y.invariant c.loop-y-test.false, tt)
+returns c = record { spot = rows_end c.loop-y.invariant c.loop-y-test.false; within = tt }

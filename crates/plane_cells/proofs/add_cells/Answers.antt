@@ -37,7 +37,7 @@ room b =
 
 pub returns-then-row-ge-PLANE_ROWS : goal.returns-then-row-ge-PLANE_ROWS
 returns-then-row-ge-PLANE_ROWS c =
-    (row_over c.args.o c.args.x c.args.region c.args.row c.args.s c.args.plane.now c.if-row-ge-PLANE_ROWS.true, (tt, kept_refl c.args.plane.now c.args.row))
+    record { made = row_over c.args.o c.args.x c.args.region c.args.row c.args.s c.args.plane.now c.if-row-ge-PLANE_ROWS.true; fits = tt; before = kept_refl c.args.plane.now c.args.row }
 
 pub overflow_add-from : goal.overflow_add-from
 overflow_add-from c =
@@ -51,7 +51,7 @@ overflow_add-from-3 c = omega (arith, output_one c, annotation_one c, c.requires
 
 pub returns-then-from-one_if-gt-PLANE_CELLS : goal.returns-then-from-one_if-gt-PLANE_CELLS
 returns-then-from-one_if-gt-PLANE_CELLS c =
-    (cells_over c.args.o c.args.x c.args.region c.args.row c.args.s c.args.plane.now (low (goal.at.returns-then-from-one_if-gt-PLANE_CELLS c).After-one_if-2) (omega (arith, output_one (goal.at.returns-then-from-one_if-gt-PLANE_CELLS c).After-one_if-2, annotation_one (goal.at.returns-then-from-one_if-gt-PLANE_CELLS c).After-one_if-2, c.if-from-one_if-gt-PLANE_CELLS.true)), (tt, kept_refl c.args.plane.now c.args.row))
+    record { made = cells_over c.args.o c.args.x c.args.region c.args.row c.args.s c.args.plane.now (low (goal.at.returns-then-from-one_if-gt-PLANE_CELLS c).After-one_if-2) (omega (arith, output_one (goal.at.returns-then-from-one_if-gt-PLANE_CELLS c).After-one_if-2, annotation_one (goal.at.returns-then-from-one_if-gt-PLANE_CELLS c).After-one_if-2, c.if-from-one_if-gt-PLANE_CELLS.true)); fits = tt; before = kept_refl c.args.plane.now c.args.row }
 
 pub add_line_if-a-requires : goal.add_line_if-a-requires
 add_line_if-a-requires c =
@@ -70,12 +70,6 @@ overflow_add-result c = omega (arith, room (goal.at.overflow_add-result c).After
 
 pub returns : goal.returns
 returns c =
-    (
-      cells_added c.args.o c.args.x c.args.region c.args.row c.args.s c.args.plane.now c.is_at-is_annotation.result (told (goal.at.returns c).After-one_if-2) (low (goal.at.returns c).After-one_if-2)
+    record { made = cells_added c.args.o c.args.x c.args.region c.args.row c.args.s c.args.plane.now c.is_at-is_annotation.result (told (goal.at.returns c).After-one_if-2) (low (goal.at.returns c).After-one_if-2)
           (omega (arith, c.if-from-one_if-gt-PLANE_CELLS.false, output_one (goal.at.returns c).After-one_if-2, annotation_one (goal.at.returns c).After-one_if-2)) c.add_line_if-a.result c.add_line_if-b.result _ _ _
-          c.add_line_if-a.ensures.cells c.add_line_if-b.ensures.cells c.put_cell.ensures.cells c.column_if-output.ensures c.column_if-annotation.ensures,
-      (
-        record { few = omega (arith, room (goal.at.returns c).After-add_line_if-b); low = λ z. low (goal.at.returns c).After-one_if-2 },
-        kept_then c.args.plane.now _ _ c.args.row c.add_line_if-a.ensures.before (kept_then _ _ _ c.args.row c.add_line_if-b.ensures.before c.put_cell.ensures.before),
-      ),
-    )
+          c.add_line_if-a.ensures.cells c.add_line_if-b.ensures.cells c.put_cell.ensures.cells c.column_if-output.ensures c.column_if-annotation.ensures; fits = record { few = omega (arith, room (goal.at.returns c).After-add_line_if-b); low = λ z. low (goal.at.returns c).After-one_if-2 }; before = kept_then c.args.plane.now _ _ c.args.row c.add_line_if-a.ensures.before (kept_then _ _ _ c.args.row c.add_line_if-b.ensures.before c.put_cell.ensures.before) }

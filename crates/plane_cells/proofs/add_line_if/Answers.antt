@@ -16,20 +16,8 @@ overflow_add-result c =
 
 pub returns-then-t : goal.returns-then-t
 returns-then-t c =
-    (
-      rw c.if-t.true,
-      (
-        c.put_cell.ensures.cells ∙ line_there c.args.t c.args.c (cells_in c.args.plane.now c.args.row c.args.i) c.if-t.true,
-        c.put_cell.ensures.before,
-      ),
-    )
+    record { ends = rw c.if-t.true; cells = c.put_cell.ensures.cells ∙ line_there c.args.t c.args.c (cells_in c.args.plane.now c.args.row c.args.i) c.if-t.true; before = c.put_cell.ensures.before }
 
 pub returns : goal.returns
 returns c =
-    (
-      rw c.if-t.false (omega arith),
-      (
-        no_line c.args.t c.args.c (cells_in c.args.plane.now c.args.row c.args.i) c.if-t.false,
-        kept_refl c.args.plane.now c.args.row,
-      ),
-    )
+    record { ends = rw c.if-t.false (omega arith); cells = no_line c.args.t c.args.c (cells_in c.args.plane.now c.args.row c.args.i) c.if-t.false; before = kept_refl c.args.plane.now c.args.row }

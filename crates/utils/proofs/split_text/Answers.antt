@@ -43,7 +43,7 @@ pub slice_bounds-measure-end-then-f-2 : goal.slice_bounds-measure-end-then-f-2
 slice_bounds-measure-end-then-f-2 c = sym c.periods_of-k.auto.t
 
 pub measure-n-requires : goal.measure-n-requires
-measure-n-requires c = (part_sizes c.first_marked-f.ensures c.if-f.true, c.periods_of-k.ensures)
+measure-n-requires c = record { p_nonzero = part_sizes c.first_marked-f.ensures c.if-f.true; periods = c.periods_of-k.ensures }
 
 pub returns-then-scratch-n : goal.returns-then-scratch-n
 returns-then-scratch-n c = let w = answer-short c.first_marked-f.ensures c.args.scratch.now c.if-f.true c.measure-n.ensures c.if-scratch-n.true in record { answer = w.0; places = w.1.0; scratch = w.1.1 }
@@ -72,7 +72,7 @@ slice_bounds-rewrite-end-then-f-2 c = sym c.periods_of-k.auto.t
 pub rewrite-requires : goal.rewrite-requires
 rewrite-requires c =
     let some = (part_sizes c.first_marked-f.ensures c.if-f.true).0 in
-    ((some, omega (arith, c.measure-n.ensures, c.if-scratch-n.false)), c.periods_of-k.ensures)
+    record { p_nonzero = (some, omega (arith, c.measure-n.ensures, c.if-scratch-n.false)); periods = c.periods_of-k.ensures }
 
 pub shape_of-scratch-then-f : goal.shape_of-scratch-then-f
 shape_of-scratch-then-f c = c.rewrite.auto.out

@@ -10,7 +10,7 @@ begin_record-requires c = record_small c.requires
 pub write_slots-requires : goal.write_slots-requires
 write_slots-requires c =
     let begun = c.begin_record.ensures in
-    (slots-held c.requires, texts_fit c.requires (omega (arith, record_room c.requires c.args.out.now _ (sym c.in-Record.is ∙ begun.value))))
+    record { parts_held = slots-held c.requires; fits = texts_fit c.requires (omega (arith, record_room c.requires c.args.out.now _ (sym c.in-Record.is ∙ begun.value))) }
 
 pub returns-in-Record : goal.returns-in-Record
 returns-in-Record c =

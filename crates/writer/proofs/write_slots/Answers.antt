@@ -8,7 +8,7 @@ pub loop-slot-init : goal.loop-slot-init
 loop-slot-init c = slots-start _ _ _ _ c.requires.fits
 
 pub put_parts-r-requires : goal.put_parts-r-requires
-put_parts-r-requires c = (held-parts c.requires.parts_held, parts_ask c.loop-slot.invariant)
+put_parts-r-requires c = record { parts = held-parts c.requires.parts_held; fits = parts_ask c.loop-slot.invariant }
 
 pub returns-then-c-next : goal.returns-then-c-next
 returns-then-c-next c = slots_end (parts-left c.loop-slot.invariant _ _ _ c.put_parts-r.ensures) c.if-c-next.true
@@ -18,7 +18,7 @@ write_values-offset-requires c =
     let held = c.loop-slot.invariant in
     let wrote = c.put_parts-r.ensures in
     let more = c.if-c-next.false in
-    ((held-slots c.requires.parts_held more, behind-parts held _ wrote.slot_value.0 more), slot_ask (parts-left held _ _ _ wrote) more)
+    record { parts_held = (held-slots c.requires.parts_held more, behind-parts held _ wrote.slot_value.0 more); fits = slot_ask (parts-left held _ _ _ wrote) more }
 
 pub loop-slot-smaller : goal.loop-slot-smaller
 loop-slot-smaller c = omega (arith, c.put_parts-r.ensures.slot_value.0, c.if-c-next.false, c.loop-slot-test.true)
