@@ -15,7 +15,7 @@ pub returns-in-Upright : goal.returns-in-Upright
 returns-in-Upright c =
     let r = c.recognize_sheet.ensures in
     let e = rw c.in-Upright.is at c.upright_sheet.ensures.sheet in
-    (λ name. r.table name ∙ stated_sheet_lem (text_in c.args.bytes.now c.args.spans.now c.args.count) (plane_in c.args.plane.now c.args.n) name _ e, r.1)
+    record { table = λ name. r.table name ∙ stated_sheet_lem (text_in c.args.bytes.now c.args.spans.now c.args.count) (plane_in c.args.plane.now c.args.n) name _ e; held = r.held; name = r.name }
 
 pub returns-in-NotStated : goal.returns-in-NotStated
 returns-in-NotStated c =
