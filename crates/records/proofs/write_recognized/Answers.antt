@@ -15,10 +15,10 @@ returns-in-Stands c =
     let w = c.write_table.ensures in
     let s = c.args in
     let e = sym c.in-Stands.is in
-    (w.outcome ∙ ap (λ (x : Recognized). outcome_of (named_table x s.bytes.now s.slots.now) (length s.out.now)) e, w.out ∙ ap (λ (x : Recognized). record_of (named_table x s.bytes.now s.slots.now) s.out.now) e)
+    record { outcome = w.outcome ∙ ap (λ (x : Recognized). outcome_of (named_table x s.bytes.now s.slots.now) (length s.out.now)) e; out = w.out ∙ ap (λ (x : Recognized). record_of (named_table x s.bytes.now s.slots.now) s.out.now) e }
 
 pub returns-in-NotRecognized : goal.returns-in-NotRecognized
 returns-in-NotRecognized c =
     let s = c.args in
     let e = sym c.in-NotRecognized.is in
-    (ap (λ (x : Recognized). outcome_of (named_table x s.bytes.now s.slots.now) (length s.out.now)) e, ap (λ (x : Recognized). record_of (named_table x s.bytes.now s.slots.now) s.out.now) e)
+    record { outcome = ap (λ (x : Recognized). outcome_of (named_table x s.bytes.now s.slots.now) (length s.out.now)) e; out = ap (λ (x : Recognized). record_of (named_table x s.bytes.now s.slots.now) s.out.now) e }

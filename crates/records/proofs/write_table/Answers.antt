@@ -23,9 +23,9 @@ write_record-requires c =
 pub returns-in-Record : goal.returns-in-Record
 returns-in-Record c =
     let s = c.args in
-    (head_total s.bytes.now s.slots.now _ _ (heads (goal.at.returns-in-Record c).After-struct_known-4-1) (sym c.in-Record.is ∙ c.write_record.ensures.answer), c.write_record.ensures.written ∙ head_record s.bytes.now s.slots.now s.out.now (heads (goal.at.returns-in-Record c).After-struct_known-4-1))
+    record { outcome = head_total s.bytes.now s.slots.now _ _ (heads (goal.at.returns-in-Record c).After-struct_known-4-1) (sym c.in-Record.is ∙ c.write_record.ensures.answer); out = c.write_record.ensures.written ∙ head_record s.bytes.now s.slots.now s.out.now (heads (goal.at.returns-in-Record c).After-struct_known-4-1) }
 
 pub returns-in-NotWritten : goal.returns-in-NotWritten
 returns-in-NotWritten c =
     let s = c.args in
-    (head_total s.bytes.now s.slots.now _ _ (heads (goal.at.returns-in-NotWritten c).After-struct_known-4-1) (sym c.in-NotWritten.is ∙ c.write_record.ensures.answer), c.write_record.ensures.written ∙ head_record s.bytes.now s.slots.now s.out.now (heads (goal.at.returns-in-NotWritten c).After-struct_known-4-1))
+    record { outcome = head_total s.bytes.now s.slots.now _ _ (heads (goal.at.returns-in-NotWritten c).After-struct_known-4-1) (sym c.in-NotWritten.is ∙ c.write_record.ensures.answer); out = c.write_record.ensures.written ∙ head_record s.bytes.now s.slots.now s.out.now (heads (goal.at.returns-in-NotWritten c).After-struct_known-4-1) }

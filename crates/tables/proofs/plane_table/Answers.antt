@@ -15,4 +15,4 @@ returns-in-Stands c =
     record { table = named_table_lem _ a (rw c.in-Stands.is at (c.recognize.ensures.table (name_of c.args.named (text_in c.args.bytes.now c.args.spans.now c.args.count)))); held = a.held }
 
 pub returns-in-NotRecognized : goal.returns-in-NotRecognized
-returns-in-NotRecognized c = let w = (rw c.in-NotRecognized.is at (c.recognize.ensures.table (name_of c.args.named (text_in c.args.bytes.now c.args.spans.now c.args.count))), tt) in record { table = w.0; held = w.1 }
+returns-in-NotRecognized c = record { table = rw c.in-NotRecognized.is at (c.recognize.ensures.table (name_of c.args.named (text_in c.args.bytes.now c.args.spans.now c.args.count))); held = tt }
