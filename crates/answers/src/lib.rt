@@ -70,7 +70,7 @@ pub fn put_upright_sheet(
     bytes: &[u8],
 ) -> usize
     requires { at + upright_bytes ≤ length out.old }
-    ensures { Written out.old out.new at (lent_lines (record { rows = rows.entry.now; kinds = kinds.now; regions = regions.now; offsets = offsets.now; sizes = sizes.now; bytes = bytes.now })) upright_bytes result }
+    ensures { Written out.old out.new at (lent_lines (record { rows = rows.now; kinds = kinds.now; regions = regions.now; offsets = offsets.now; sizes = sizes.now; bytes = bytes.now })) upright_bytes result }
 {
     let mut plane = [0u32; 4160];
     let mut spans = [0u32; 2048];

@@ -42,9 +42,9 @@ pub extern "C" fn fezandimo_read_lent_plane(
     slots: &mut [u32],
     out: &mut [u8],
 ) -> Answer
-    ensures answer { result ≡ answer_of (lent_end (record { rows = rows.entry.now; kinds = kinds.now; regions = regions.now; offsets = offsets.now; sizes = sizes.now; bytes = bytes.now }) (plane.old ∷ spans.old ∷ upright.old ∷ slots.old ∷ []) out.old).outcome }
-    ensures works { (plane.new ∷ spans.new ∷ upright.new ∷ slots.new ∷ []) ≡ (lent_end (record { rows = rows.entry.now; kinds = kinds.now; regions = regions.now; offsets = offsets.now; sizes = sizes.now; bytes = bytes.now }) (plane.old ∷ spans.old ∷ upright.old ∷ slots.old ∷ []) out.old).works }
-    ensures out { out.new ≡ (lent_end (record { rows = rows.entry.now; kinds = kinds.now; regions = regions.now; offsets = offsets.now; sizes = sizes.now; bytes = bytes.now }) (plane.old ∷ spans.old ∷ upright.old ∷ slots.old ∷ []) out.old).out }
+    ensures answer { result ≡ answer_of (lent_end (record { rows = rows.now; kinds = kinds.now; regions = regions.now; offsets = offsets.now; sizes = sizes.now; bytes = bytes.now }) (plane.old ∷ spans.old ∷ upright.old ∷ slots.old ∷ []) out.old).outcome }
+    ensures works { (plane.new ∷ spans.new ∷ upright.new ∷ slots.new ∷ []) ≡ (lent_end (record { rows = rows.now; kinds = kinds.now; regions = regions.now; offsets = offsets.now; sizes = sizes.now; bytes = bytes.now }) (plane.old ∷ spans.old ∷ upright.old ∷ slots.old ∷ []) out.old).works }
+    ensures out { out.new ≡ (lent_end (record { rows = rows.now; kinds = kinds.now; regions = regions.now; offsets = offsets.now; sizes = sizes.now; bytes = bytes.now }) (plane.old ∷ spans.old ∷ upright.old ∷ slots.old ∷ []) out.old).out }
 {
     let o = lent_builder::read_lent_plane(
         rows, kinds, regions, offsets, sizes, bytes, plane, spans, upright, slots, out,

@@ -137,7 +137,7 @@ fn is_well_formed(
     sizes: &[u32],
     bytes: &[u8],
 ) -> bool
-    ensures { result ≡ well_formed (record { rows = rows.entry.now; kinds = kinds.now; regions = regions.now; offsets = offsets.now; sizes = sizes.now; bytes = bytes.now }) }
+    ensures { result ≡ well_formed (record { rows = rows.now; kinds = kinds.now; regions = regions.now; offsets = offsets.now; sizes = sizes.now; bytes = bytes.now }) }
 {
     if !is_within(rows, offsets, bytes) {
         return false;
@@ -234,7 +234,7 @@ pub fn load(
     spans: &mut [u32],
 ) -> Loaded
     requires { Room plane.old spans.old }
-    ensures loaded { loaded_in result plane.new bytes.now spans.new (length offsets.now) ≡ lent_of (record { rows = rows.entry.now; kinds = kinds.now; regions = regions.now; offsets = offsets.now; sizes = sizes.now; bytes = bytes.now }) }
+    ensures loaded { loaded_in result plane.new bytes.now spans.new (length offsets.now) ≡ lent_of (record { rows = rows.now; kinds = kinds.now; regions = regions.now; offsets = offsets.now; sizes = sizes.now; bytes = bytes.now }) }
     ensures held { LoadedHeld result plane.new bytes.now spans.new (length offsets.now) }
 {
     if !is_well_formed(rows, kinds, regions, offsets, sizes, bytes) {

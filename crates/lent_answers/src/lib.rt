@@ -21,7 +21,7 @@ fn put_lists(
     bytes: &[u8],
 ) -> usize
     requires { at + line_bytes ≤ length out.old }
-    ensures { Written out.old out.new at (lines_by is_table (record { rows = rows.entry.now; kinds = kinds.now; regions = regions.now; offsets = offsets.now; sizes = sizes.now; bytes = bytes.now })) line_bytes result }
+    ensures { Written out.old out.new at (lines_by is_table (record { rows = rows.now; kinds = kinds.now; regions = regions.now; offsets = offsets.now; sizes = sizes.now; bytes = bytes.now })) line_bytes result }
 {
     if is_table {
         return lent_reports::put_lent_plane(out, at, rows, kinds, regions, offsets, sizes, bytes);

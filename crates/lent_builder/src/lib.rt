@@ -25,7 +25,7 @@ fn lent_cleared(
     out: &mut [u8],
 ) -> Outcome
     requires { Roomy (plane.old ∷ spans.old ∷ upright.old ∷ slots.old ∷ []) lent_sizes }
-    ensures end { lent_end (record { rows = rows.entry.now; kinds = kinds.now; regions = regions.now; offsets = offsets.now; sizes = sizes.now; bytes = bytes.now }) (plane.old ∷ spans.old ∷ upright.old ∷ slots.old ∷ []) out.old ≡ record { outcome = result; works = plane.new ∷ spans.new ∷ upright.new ∷ slots.new ∷ []; out = out.new } }
+    ensures end { lent_end (record { rows = rows.now; kinds = kinds.now; regions = regions.now; offsets = offsets.now; sizes = sizes.now; bytes = bytes.now }) (plane.old ∷ spans.old ∷ upright.old ∷ slots.old ∷ []) out.old ≡ record { outcome = result; works = plane.new ∷ spans.new ∷ upright.new ∷ slots.new ∷ []; out = out.new } }
 {
     let r = lent_records::lent_record(
         rows, kinds, regions, offsets, sizes, bytes, plane, spans, upright, slots, out,
@@ -48,7 +48,7 @@ pub fn read_lent_plane(
     slots: &mut [u32],
     out: &mut [u8],
 ) -> Outcome
-    ensures end { lent_end (record { rows = rows.entry.now; kinds = kinds.now; regions = regions.now; offsets = offsets.now; sizes = sizes.now; bytes = bytes.now }) (plane.old ∷ spans.old ∷ upright.old ∷ slots.old ∷ []) out.old ≡ record { outcome = result; works = plane.new ∷ spans.new ∷ upright.new ∷ slots.new ∷ []; out = out.new } }
+    ensures end { lent_end (record { rows = rows.now; kinds = kinds.now; regions = regions.now; offsets = offsets.now; sizes = sizes.now; bytes = bytes.now }) (plane.old ∷ spans.old ∷ upright.old ∷ slots.old ∷ []) out.old ≡ record { outcome = result; works = plane.new ∷ spans.new ∷ upright.new ∷ slots.new ∷ []; out = out.new } }
 {
     let lens = [plane.len(), spans.len(), upright.len(), slots.len()];
     let least = LENT_SIZES;

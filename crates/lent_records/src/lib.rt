@@ -25,7 +25,7 @@ fn lent_table(
     slots: &mut [u32],
 ) -> Recognized
     requires { LentRoom plane.old spans.old upright.old slots.old }
-    ensures table { named_table result bytes.now slots.new ≡ table_read (lent_policy (record { rows = rows.entry.now; kinds = kinds.now; regions = regions.now; offsets = offsets.now; sizes = sizes.now; bytes = bytes.now })) }
+    ensures table { named_table result bytes.now slots.new ≡ table_read (lent_policy (record { rows = rows.now; kinds = kinds.now; regions = regions.now; offsets = offsets.now; sizes = sizes.now; bytes = bytes.now })) }
     ensures held { AnswerHeld result bytes.now slots.new }
 {
     match lent::load(rows, kinds, regions, offsets, sizes, bytes, plane, spans) {
@@ -58,8 +58,8 @@ pub fn lent_record(
     out: &mut [u8],
 ) -> Outcome
     requires { LentRoom plane.old spans.old upright.old slots.old }
-    ensures outcome { result ≡ outcome_of (table_read (lent_policy (record { rows = rows.entry.now; kinds = kinds.now; regions = regions.now; offsets = offsets.now; sizes = sizes.now; bytes = bytes.now }))) (length out.old) }
-    ensures out { out.new ≡ record_of (table_read (lent_policy (record { rows = rows.entry.now; kinds = kinds.now; regions = regions.now; offsets = offsets.now; sizes = sizes.now; bytes = bytes.now }))) out.old }
+    ensures outcome { result ≡ outcome_of (table_read (lent_policy (record { rows = rows.now; kinds = kinds.now; regions = regions.now; offsets = offsets.now; sizes = sizes.now; bytes = bytes.now }))) (length out.old) }
+    ensures out { out.new ≡ record_of (table_read (lent_policy (record { rows = rows.now; kinds = kinds.now; regions = regions.now; offsets = offsets.now; sizes = sizes.now; bytes = bytes.now }))) out.old }
 {
     let t = lent_table(
         rows, kinds, regions, offsets, sizes, bytes, plane, spans, upright, slots,

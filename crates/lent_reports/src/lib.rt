@@ -19,7 +19,7 @@ pub fn put_lent_plane(
     bytes: &[u8],
 ) -> usize
     requires { at + report_bytes ≤ length out.old }
-    ensures { Written out.old out.new at (policy_lines record_bytes (lent_policy (record { rows = rows.entry.now; kinds = kinds.now; regions = regions.now; offsets = offsets.now; sizes = sizes.now; bytes = bytes.now }))) report_bytes result }
+    ensures { Written out.old out.new at (policy_lines record_bytes (lent_policy (record { rows = rows.now; kinds = kinds.now; regions = regions.now; offsets = offsets.now; sizes = sizes.now; bytes = bytes.now }))) report_bytes result }
 {
     let mut plane = [0u32; 4160];
     let mut spans = [0u32; 2048];

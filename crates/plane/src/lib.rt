@@ -72,7 +72,7 @@ pub fn lent_sheet(
     out: &mut [u32],
 ) -> StatedSheet
     requires { WorkRoom plane.old spans.old out.old }
-    ensures sheet { stated_in result out.new ≡ lent_sheet (record { rows = rows.entry.now; kinds = kinds.now; regions = regions.now; offsets = offsets.now; sizes = sizes.now; bytes = bytes.now }) }
+    ensures sheet { stated_in result out.new ≡ lent_sheet (record { rows = rows.now; kinds = kinds.now; regions = regions.now; offsets = offsets.now; sizes = sizes.now; bytes = bytes.now }) }
     ensures held { StatedHeld result out.new bytes.now spans.new (length offsets.now) }
 {
     match lent::load(rows, kinds, regions, offsets, sizes, bytes, plane, spans) {

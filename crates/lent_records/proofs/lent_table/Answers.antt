@@ -17,21 +17,21 @@ lent s =
     let a = s.args in
     record { rows = a.rows.now; kinds = a.kinds.now; regions = a.regions.now; offsets = a.offsets.now; sizes = a.sizes.now; bytes = a.bytes.now }
 
-told : (c : In-Rows) → ok (record { plane = plane_in ((c.load.new.plane)) c.in-Rows.n; texts = texts_in c.args.bytes.now ((c.load.new.spans)) (length c.args.offsets.now) }) ≡ lent_of (lent (UP.Start c))
-told c = ap (λ (m : Loaded). loaded_in m (c.load.new.plane) c.args.bytes.now (c.load.new.spans) (length c.args.offsets.now)) (sym c.in-Rows.is) ∙ c.load.ensures.loaded
+told : (c : In-Rows) → ok (record { plane = plane_in c.load.new.plane c.in-Rows.n; texts = texts_in c.args.bytes.now c.load.new.spans (length c.args.offsets.now) }) ≡ lent_of (let a = c.args in record { rows = a.rows.now; kinds = a.kinds.now; regions = a.regions.now; offsets = a.offsets.now; sizes = a.sizes.now; bytes = a.bytes.now })
+told c = ap (λ (m : Loaded). loaded_in m c.load.new.plane c.args.bytes.now c.load.new.spans (length c.args.offsets.now)) (sym c.in-Rows.is) ∙ c.load.ensures.loaded
 
-held : (c : In-Rows) → Held (c.load.new.plane) c.in-Rows.n c.args.bytes.now (c.load.new.spans) (length c.args.offsets.now)
-held c = subst (λ (m : Loaded). LoadedHeld m (c.load.new.plane) c.args.bytes.now (c.load.new.spans) (length c.args.offsets.now)) c.in-Rows.is c.load.ensures.held
+held : (c : In-Rows) → Held c.load.new.plane c.in-Rows.n c.args.bytes.now c.load.new.spans (length c.args.offsets.now)
+held c = subst (λ (m : Loaded). LoadedHeld m c.load.new.plane c.args.bytes.now c.load.new.spans (length c.args.offsets.now)) c.in-Rows.is c.load.ensures.held
 
 pub plane_table-requires : goal.plane_table-requires
 plane_table-requires c =
-    let few = few_bytes (lent (goal.at.plane_table-requires c).Start) (record { plane = plane_in ((c.load.new.plane)) c.in-Rows.n; texts = texts_in c.args.bytes.now ((c.load.new.spans)) (length c.args.offsets.now) }) (told (goal.at.plane_table-requires c).In-Rows) in
+    let few = few_bytes (lent (goal.at.plane_table-requires c).Start) (record { plane = plane_in c.load.new.plane c.in-Rows.n; texts = texts_in c.args.bytes.now c.load.new.spans (length c.args.offsets.now) }) (told (goal.at.plane_table-requires c).In-Rows) in
     (record { held = held (goal.at.plane_table-requires c).In-Rows; few = few; sheet = c.requires.sheet; room = c.requires.room }, no_name (held (goal.at.plane_table-requires c).In-Rows) few)
 
 pub returns-in-Rows : goal.returns-in-Rows
 returns-in-Rows c =
     let p = c.plane_table.ensures in
-    (p.table ∙ lent-policy (lent (goal.at.returns-in-Rows c).Start) (record { plane = plane_in ((c.load.new.plane)) c.in-Rows.n; texts = texts_in c.args.bytes.now ((c.load.new.spans)) (length c.args.offsets.now) }) (told (goal.at.returns-in-Rows c).In-Rows), p.held)
+    (p.table ∙ lent-policy (lent (goal.at.returns-in-Rows c).Start) (record { plane = plane_in c.load.new.plane c.in-Rows.n; texts = texts_in c.args.bytes.now c.load.new.spans (length c.args.offsets.now) }) (told (goal.at.returns-in-Rows c).In-Rows), p.held)
 
 pub returns-in-NotLoaded : goal.returns-in-NotLoaded
 returns-in-NotLoaded c =
