@@ -1,7 +1,7 @@
 -- `clauses::pass_sizes` meets its contract.
-use mathlib.Core.Logic.{⊎_elim}
 use Rattle.clauses.proofs.ShapeLaws.{size-entries, size-notes, sizes_noted, sizes_bare, sizes_fit, stopped_clear}
 use Rattle.clauses.proofs.pass_sizes.Goals as goal
+use Rattle.clauses.proofs.pass_sizes.Goals.{else-a-gt0-via-then-a-gt0+else-rows-a, else-a-gt0-via-else-a-gt0}
 
 pub returns-then-rows-s : goal.returns-then-rows-s
 returns-then-rows-s c = record { sizes = size-entries _ _ _ c.if-rows-s.true; rules = stopped_clear }
@@ -13,4 +13,10 @@ returns-then-rows-a c =
 pub returns : goal.returns
 returns c =
     let e = c.if-rows-s.false in
-    record { sizes = ⊎_elim (λ t. sizes_noted _ _ _ e t.0.taken t.2.left) (λ t. sizes_bare _ _ _ e t.left) c.else-a-gt0.branch; rules = λ z. sizes_fit _ _ _ e c.requires.0 }
+    record {
+      sizes = elim c.else-a-gt0.branch [
+        | else-a-gt0-via-then-a-gt0+else-rows-a w ↦ sizes_noted _ _ _ e w.if-a-gt0.true w.if-rows-a.false-raw
+        | else-a-gt0-via-else-a-gt0 w ↦ sizes_bare _ _ _ e w.if-a-gt0.false
+      ];
+      rules = λ z. sizes_fit _ _ _ e c.requires.0;
+    }

@@ -19,4 +19,4 @@ returns-in-Upright c =
 
 pub returns-in-NotStated : goal.returns-in-NotStated
 returns-in-NotStated c =
-    (λ name. not_stated (text_in c.args.bytes.now c.args.spans.now c.args.count) (plane_in c.args.plane.now c.args.n) name _ (rw c.in-NotStated.is at c.upright_sheet.ensures.sheet), (tt, λ j h. refl))
+    record { table = λ name. not_stated (text_in c.args.bytes.now c.args.spans.now c.args.count) (plane_in c.args.plane.now c.args.n) name _ (rw c.in-NotStated.is at c.upright_sheet.ensures.sheet); held = tt; name = λ j h. refl }

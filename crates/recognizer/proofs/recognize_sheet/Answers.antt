@@ -9,7 +9,7 @@ use Rattle.recognizer.proofs.recognize_sheet.Goals as goal
 
 pub returns-in-NotShaped : goal.returns-in-NotShaped
 returns-in-NotShaped c =
-    (λ name. not_shaped (text_in c.args.bytes.now c.args.spans.now c.args.count) (record { orientation = c.args.s.orientation; policy = c.args.s.policy; rules = c.args.s.rules; plane = plane_in c.args.upright.now c.args.s.rows }) c.requires.2 _ (rw c.in-NotShaped.is at c.checked_shape.ensures.shape) name, (tt, λ j h. refl))
+    record { table = λ name. not_shaped (text_in c.args.bytes.now c.args.spans.now c.args.count) (record { orientation = c.args.s.orientation; policy = c.args.s.policy; rules = c.args.s.rules; plane = plane_in c.args.upright.now c.args.s.rows }) c.requires.2 _ (rw c.in-NotShaped.is at c.checked_shape.ensures.shape) name; held = tt; name = λ j h. refl }
 
 pub fill-e-requires : goal.fill-e-requires
 fill-e-requires c =
@@ -18,10 +18,4 @@ fill-e-requires c =
 pub returns : goal.returns
 returns c =
     let p = c.fill-e.ensures in
-    let e = rw c.in-Has.is at c.checked_shape.ensures.shape in (
-      stands (text_in c.args.bytes.now c.args.spans.now c.args.count) (record { orientation = c.args.s.orientation; policy = c.args.s.policy; rules = c.args.s.rules; plane = plane_in c.args.upright.now c.args.s.rows }) c.requires.2 c.in-Has.f e p,
-      (
-        table-held (text_in c.args.bytes.now c.args.spans.now c.args.count) (record { orientation = c.args.s.orientation; policy = c.args.s.policy; rules = c.args.s.rules; plane = plane_in c.args.upright.now c.args.s.rows }) c.requires.2 c.in-Has.f e p (rw c.in-Has.is at c.checked_shape.ensures.fits) c.requires.0.held.fits.rows c.requires.1,
-        λ j h. p.kept j (omega arith),
-      ),
-    )
+    let e = rw c.in-Has.is at c.checked_shape.ensures.shape in record { table = stands (text_in c.args.bytes.now c.args.spans.now c.args.count) (record { orientation = c.args.s.orientation; policy = c.args.s.policy; rules = c.args.s.rules; plane = plane_in c.args.upright.now c.args.s.rows }) c.requires.2 c.in-Has.f e p; held = table-held (text_in c.args.bytes.now c.args.spans.now c.args.count) (record { orientation = c.args.s.orientation; policy = c.args.s.policy; rules = c.args.s.rules; plane = plane_in c.args.upright.now c.args.s.rows }) c.requires.2 c.in-Has.f e p (rw c.in-Has.is at c.checked_shape.ensures.fits) c.requires.0.held.fits.rows c.requires.1; name = λ j h. p.kept j (omega arith) }

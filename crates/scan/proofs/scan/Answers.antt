@@ -26,4 +26,4 @@ write_rows-requires c =
 pub returns : goal.returns
 returns c =
     let a = c.args in
-    let h : c.measure-m.result.rows ≤ canvas_rows = omega arith in let w = scan_canvas c.sheet_start-start.ensures.start c.measure-m.ensures.measured a.text.now a.body.now h (omega arith) (c.measure-m.ensures.kept h) _ (c.sheet_start-start.ensures.valid.same ∙ c.measure-m.ensures.valid) c.write_rows.ensures in record { answer = w.0; end = w.1.0; valid = w.1.1.0; layer = w.1.1.1.0; body = w.1.1.1.1 }
+    let h : c.measure-m.result.rows ≤ canvas_rows = omega arith in let w = scan_canvas c.sheet_start-start.ensures.start c.measure-m.ensures.measured a.text.now a.body.now h (omega arith) (c.measure-m.ensures.kept h) _ (c.sheet_start-start.ensures.valid.same ∙ c.measure-m.ensures.valid) (c.write_rows.ensures.text, c.write_rows.ensures.body) in record { answer = w.0; end = w.1.0; valid = w.1.1.0; layer = w.1.1.1.0; body = w.1.1.1.1 }

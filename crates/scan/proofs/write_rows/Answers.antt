@@ -35,9 +35,9 @@ put_row-requires c =
 pub loop-r-preserved : goal.loop-r-preserved
 loop-r-preserved c =
     let i = c.loop-r.invariant in
-    let k = c.put_row.auto.1.1.1.1 in (
-      writing_more i.0 (row (goal.at.loop-r-preserved c).In-loop-r) c.put_row.ensures.text k.0,
-      writing_more i.1 (row (goal.at.loop-r-preserved c).In-loop-r) c.put_row.ensures.body k.1.0,
+    let k = c.put_row.auto in (
+      writing_more i.0 (row (goal.at.loop-r-preserved c).In-loop-r) c.put_row.ensures.text k.text,
+      writing_more i.1 (row (goal.at.loop-r-preserved c).In-loop-r) c.put_row.ensures.body k.body,
     )
 
 pub shape_of-text : goal.shape_of-text

@@ -39,9 +39,9 @@ bounds-spans-k-in-Number c = omega (arith, among (goal.at.bounds-spans-k-in-Numb
 pub returns-in-Number : goal.returns-in-Number
 returns-in-Number c =
     let t = c.requires in
-    (read-text t.held _ _ c.in-Number.k (found (goal.at.returns-in-Number c).In-Number), record { inside = t.held.inside c.in-Number.k (among (goal.at.returns-in-Number c).In-Number); few = t.few })
+    record { text = read-text t.held _ _ c.in-Number.k (found (goal.at.returns-in-Number c).In-Number); inside = record { inside = t.held.inside c.in-Number.k (among (goal.at.returns-in-Number c).In-Number); few = t.few } }
 
 pub returns-in-NotRead : goal.returns-in-NotRead
 returns-in-NotRead c =
     let t = c.requires in
-    (unread_text t.held _ _ _ (rw c.in-NotRead.is at c.region_at.ensures), record { inside = omega arith; few = t.few })
+    record { text = unread_text t.held _ _ _ (rw c.in-NotRead.is at c.region_at.ensures); inside = record { inside = omega arith; few = t.few } }

@@ -21,7 +21,7 @@ marked c =
 -- the rewritten values are written
 rewritten : (c : After-put_rewritten-r) → Spelt c.args.bytes.now c.args.slots.now c.put_rewritten-r.new.slots c.args.from c.put_rewritten-r.result
     (some (values_of (part_of c.args.bytes.now c.args.p)).allowed ∷ [])
-rewritten c = c.put_rewritten-r.ensures c.args.bytes.now c.requires.1 (marked (UP.In-Marked c)).size
+rewritten c = c.put_rewritten-r.ensures c.args.bytes.now c.requires.1 (marked_in c.args.bytes.now c.args.p c.requires.1 _ _ _ (rw c.in-Marked.is at c.measure_values.ensures)).size
 
 -- where the default lies
 placed : (c : In-Marked) → let a = c.args in

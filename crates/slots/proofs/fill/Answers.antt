@@ -14,17 +14,20 @@ use Rattle.slots.proofs.fill.Goals.{After-put_inputs-b, After-put_label-a, After
 front : (s : Start) → Room (record { slot = 1; bytes = 0 }) (1 + from_inputs s.args.s s.args.rules) s.args.slots.now
 front s = room-all s.requires.1 s.requires.0.held.fits.rows s.requires.2
 
-behind-label : (c : After-put_label-a) → let a = c.args in Room c.put_label-a.result (from_inputs a.s a.rules) c.put_label-a.new.slots
-behind-label c = room_next (front (UP.Start c)) c.put_label-a.ensures (refl) (omega arith) c.put_label-a.auto.slots
+behind-label : (c : After-put_label-a) → Room c.put_label-a.result (from_inputs c.args.s c.args.rules) c.put_label-a.new.slots
+behind-label c = room_next (room-all c.requires.1 c.requires.0.held.fits.rows c.requires.2) c.put_label-a.ensures (refl) (omega arith) c.put_label-a.auto.slots
 
-behind-inputs : (c : After-put_inputs-b) → let a = c.args in Room c.put_inputs-b.result (from_outputs a.s a.rules) c.put_inputs-b.new.slots
-behind-inputs c = room_next (behind-label (UP.After-put_label-a c)) c.put_inputs-b.ensures (join-length _ 0 _ 2 (λ i. refl)) (omega arith) c.put_inputs-b.auto.slots
+behind-inputs : (c : After-put_inputs-b) → Room c.put_label-a.result (from_inputs c.args.s c.args.rules) c.put_label-a.new.slots
+    → Room c.put_inputs-b.result (from_outputs c.args.s c.args.rules) c.put_inputs-b.new.slots
+behind-inputs c r = room_next r c.put_inputs-b.ensures (join-length _ 0 _ 2 (λ i. refl)) (omega arith) c.put_inputs-b.auto.slots
 
-behind-outputs : (c : After-put_outputs-c) → let a = c.args in Room c.put_outputs-c.result (from_notes a.s a.rules) c.put_outputs-c.new.slots
-behind-outputs c = room_next (behind-inputs (UP.After-put_inputs-b c)) c.put_outputs-c.ensures (join-length _ 0 _ 3 (λ j. refl)) (omega arith) c.put_outputs-c.auto.slots
+behind-outputs : (c : After-put_outputs-c) → Room c.put_inputs-b.result (from_outputs c.args.s c.args.rules) c.put_inputs-b.new.slots
+    → Room c.put_outputs-c.result (from_notes c.args.s c.args.rules) c.put_outputs-c.new.slots
+behind-outputs c r = room_next r c.put_outputs-c.ensures (join-length _ 0 _ 3 (λ j. refl)) (omega arith) c.put_outputs-c.auto.slots
 
-behind-notes : (c : After-put_notes-d) → let a = c.args in Room c.put_notes-d.result (for_rules a.s a.rules) c.put_notes-d.new.slots
-behind-notes c = room_next (behind-outputs (UP.After-put_outputs-c c)) c.put_notes-d.ensures (length_run _ _ _) (omega arith) c.put_notes-d.auto.slots
+behind-notes : (c : After-put_notes-d) → Room c.put_outputs-c.result (from_notes c.args.s c.args.rules) c.put_outputs-c.new.slots
+    → Room c.put_notes-d.result (for_rules c.args.s c.args.rules) c.put_notes-d.new.slots
+behind-notes c r = room_next r c.put_notes-d.ensures (length_run _ _ _) (omega arith) c.put_notes-d.auto.slots
 
 pub put_label-a-requires : goal.put_label-a-requires
 put_label-a-requires c = (c.requires.0, room_less (front (goal.at.put_label-a-requires c).Start) (omega arith), omega (arith, c.requires.1.columns))
@@ -35,17 +38,17 @@ put_inputs-b-requires c = (c.requires.0, room_less (behind-label (goal.at.put_in
 pub put_outputs-c-requires : goal.put_outputs-c-requires
 put_outputs-c-requires c =
     let t = c.requires in
-    (t.0, room_less (behind-inputs (goal.at.put_outputs-c-requires c).After-put_inputs-b) (omega arith), omega (arith, t.1.columns))
+    (t.0, room_less (behind-inputs (goal.at.put_outputs-c-requires c).After-put_inputs-b (behind-label (goal.at.put_outputs-c-requires c).After-put_label-a)) (omega arith), omega (arith, t.1.columns))
 
 pub put_notes-d-requires : goal.put_notes-d-requires
 put_notes-d-requires c =
     let t = c.requires in
-    (t.0, room_less (behind-outputs (goal.at.put_notes-d-requires c).After-put_outputs-c) (omega arith), t.1.behind)
+    (t.0, room_less (behind-outputs (goal.at.put_notes-d-requires c).After-put_outputs-c (behind-inputs (goal.at.put_notes-d-requires c).After-put_inputs-b (behind-label (goal.at.put_notes-d-requires c).After-put_label-a))) (omega arith), t.1.behind)
 
 pub put_rules-requires : goal.put_rules-requires
 put_rules-requires c =
     let t = c.requires in
-    (t.0, behind-notes (goal.at.put_rules-requires c).After-put_notes-d, t.1)
+    (t.0, behind-notes (goal.at.put_rules-requires c).After-put_notes-d (behind-outputs (goal.at.put_rules-requires c).After-put_outputs-c (behind-inputs (goal.at.put_rules-requires c).After-put_inputs-b (behind-label (goal.at.put_rules-requires c).After-put_label-a))), t.1)
 
 pub shape_of-slots : goal.shape_of-slots
 shape_of-slots c =

@@ -17,4 +17,4 @@ put_slot-requires c =
     (omega (arith, ask, c.put_values-end.auto), omega (arith, ask), omega (arith, ask, c.put_values-end.ensures.value))
 
 pub returns : goal.returns
-returns c = let w = values-left _ _ _ c.requires.parts_held.1 _ c.part_of-text.ensures _ _ c.requires.fits _ _ _ _ refl c.put_values-end.ensures c.put_slot.ensures in record { value = w.0; out_after = w.1 }
+returns c = let w = values-left _ _ _ c.requires.parts_held.1 _ c.part_of-text.ensures _ _ c.requires.fits _ _ _ _ refl (c.put_values-end.ensures.value, c.put_values-end.ensures.out_after) c.put_slot.ensures in record { value = w.0; out_after = w.1 }
