@@ -1,5 +1,6 @@
 // From the bytes of a sheet to its outline and its four layers.
 #![tactic(auto)]
+
 ghost use Rattle.std.specs.Prelude.{◌≡◌};
 ghost use Rattle.lists.specs.Picture.{canvas};
 ghost use Rattle.body_layer.specs.Body.{body_picture};

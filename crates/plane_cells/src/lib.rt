@@ -1,5 +1,6 @@
 // Cells that are added to a row of a plane.
 #![tactic(auto)]
+
 ghost use Rattle.std.specs.Prelude.{true, ◌≡◌, [], ◌∷◌, ◌++◌, ◌+◌, ◌≤◌, ◌<◌, length};
 ghost use Rattle.lists.specs.Choose.{choose};
 ghost use Rattle.outline.specs.declared.Crossing.TheVariants.{At};

@@ -1,5 +1,6 @@
 // Line rows that are added to a plane.
 #![tactic(auto)]
+
 ghost use Rattle.std.specs.Prelude.{◌≡◌, ◌≤◌, ◌<◌, length};
 ghost use Rattle.lists.specs.Answer.{ok};
 ghost use Rattle.lists.specs.Choose.{choose};

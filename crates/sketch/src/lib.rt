@@ -1,5 +1,6 @@
 // The parts of a drawing as the judge of the Rust prints them, into a slice of bytes: layers, regions and the name.
 #![tactic(auto)]
+
 ghost use Rattle.std.specs.Prelude.{[], ◌∷◌, ◌++◌, ◌+◌, ◌*◌, ◌≤◌, ◌<◌, length};
 ghost use Rattle.lists.specs.Picture.{canvas};
 ghost use Rattle.rects.specs.Rects.{rect_at, rects_of};

@@ -1,5 +1,6 @@
 // The plane step: from the frames of GRID, the regions and the crossings to the plane.
 #![tactic(auto)]
+
 ghost use Rattle.std.specs.Prelude.{true, ◌≡◌, [], ◌+◌, ◌*◌, ◌≤◌, ◌<◌, length};
 ghost use Rattle.lists.specs.Picture.{pic, canvas};
 ghost use Rattle.model.specs.Limits.{plane_size};

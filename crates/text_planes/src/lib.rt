@@ -1,5 +1,6 @@
 // From the layers of a drawing to its regions with their texts, and to its plane.
 #![tactic(auto)]
+
 ghost use Rattle.std.specs.Prelude.{◌≡◌};
 ghost use Rattle.lists.specs.Picture.{canvas};
 ghost use Rattle.text_planes.specs.DrawnPlane.{text_plane_of, plane_read, PlaneHeld, PlaneRoom};

@@ -9,4 +9,4 @@ pub returns : goal.returns
 returns c =
     let a = c.args in
     let body = c.make_body.ensures.bodies_after ∙ ap (λ (T : Picture). body_picture a.r T (canvas a.width a.rows a.bodies.now)) c.make_thin.ensures in
-    (c.make_thin.ensures, (body, c.make_grid.ensures ∙ ap (grid_picture a.r) body))
+    record { thin = c.make_thin.ensures; body = body; grid = c.make_grid.ensures ∙ ap (grid_picture a.r) body }

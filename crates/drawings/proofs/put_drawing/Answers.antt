@@ -18,23 +18,21 @@ pub slice_bounds-draw_sheet-end-4 : goal.slice_bounds-draw_sheet-end-4
 slice_bounds-draw_sheet-end-4 c = refl
 
 pub put_layers-a-requires : goal.put_layers-a-requires
-put_layers-a-requires c =
-    (
-      omega (arith, c.requires),
-      (drawn-layer c.args.s.now _ c.draw_sheet.ensures.answer _ _ _ _ c.draw_sheet.ensures.layers c.in-Drawn.is _ (omega (arith, c.draw_sheet.auto.text))),
-      (drawn-layer c.args.s.now _ c.draw_sheet.ensures.answer _ _ _ _ c.draw_sheet.ensures.layers c.in-Drawn.is _ (omega (arith, c.draw_sheet.auto.thins))),
-      (drawn-layer c.args.s.now _ c.draw_sheet.ensures.answer _ _ _ _ c.draw_sheet.ensures.layers c.in-Drawn.is _ (omega (arith, c.draw_sheet.auto.bodies))),
-      (drawn-layer c.args.s.now _ c.draw_sheet.ensures.answer _ _ _ _ c.draw_sheet.ensures.layers c.in-Drawn.is _ (omega (arith, c.draw_sheet.auto.grid))),
-    )
+put_layers-a-requires c = (
+  omega (arith, c.requires),
+  (drawn-layer c.args.s.now _ c.draw_sheet.ensures.answer _ _ _ _ c.draw_sheet.ensures.layers c.in-Drawn.is _ (omega (arith, c.draw_sheet.auto.text))),
+  (drawn-layer c.args.s.now _ c.draw_sheet.ensures.answer _ _ _ _ c.draw_sheet.ensures.layers c.in-Drawn.is _ (omega (arith, c.draw_sheet.auto.thins))),
+  (drawn-layer c.args.s.now _ c.draw_sheet.ensures.answer _ _ _ _ c.draw_sheet.ensures.layers c.in-Drawn.is _ (omega (arith, c.draw_sheet.auto.bodies))),
+  (drawn-layer c.args.s.now _ c.draw_sheet.ensures.answer _ _ _ _ c.draw_sheet.ensures.layers c.in-Drawn.is _ (omega (arith, c.draw_sheet.auto.grid))),
+)
 
 pub put_regions-requires : goal.put_regions-requires
-put_regions-requires c =
-    (
-      omega (arith, c.put_layers-a.ensures.short, c.put_layers-a.auto.out, c.requires),
-      (drawn-layer c.args.s.now _ c.draw_sheet.ensures.answer _ _ _ _ c.draw_sheet.ensures.layers c.in-Drawn.is _ (omega (arith, c.draw_sheet.auto.text))),
-      (drawn-layer c.args.s.now _ c.draw_sheet.ensures.answer _ _ _ _ c.draw_sheet.ensures.layers c.in-Drawn.is _ (omega (arith, c.draw_sheet.auto.thins))),
-      (drawn-layer c.args.s.now _ c.draw_sheet.ensures.answer _ _ _ _ c.draw_sheet.ensures.layers c.in-Drawn.is _ (omega (arith, c.draw_sheet.auto.grid))),
-    )
+put_regions-requires c = (
+  omega (arith, c.put_layers-a.ensures.short, c.put_layers-a.auto.out, c.requires),
+  (drawn-layer c.args.s.now _ c.draw_sheet.ensures.answer _ _ _ _ c.draw_sheet.ensures.layers c.in-Drawn.is _ (omega (arith, c.draw_sheet.auto.text))),
+  (drawn-layer c.args.s.now _ c.draw_sheet.ensures.answer _ _ _ _ c.draw_sheet.ensures.layers c.in-Drawn.is _ (omega (arith, c.draw_sheet.auto.thins))),
+  (drawn-layer c.args.s.now _ c.draw_sheet.ensures.answer _ _ _ _ c.draw_sheet.ensures.layers c.in-Drawn.is _ (omega (arith, c.draw_sheet.auto.grid))),
+)
 
 pub returns-in-Drawn : goal.returns-in-Drawn
 returns-in-Drawn c =

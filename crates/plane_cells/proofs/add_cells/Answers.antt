@@ -28,12 +28,13 @@ ends : (a : After-add_line_if-a) → a.add_line_if-a.result ≡ a.args.s.cells +
 ends a = a.add_line_if-a.ensures.ends
 
 ends_2 : (b : After-add_line_if-b) → b.add_line_if-b.result ≡ b.add_line_if-a.result + choose (is_at b.args.o.right b.args.x) 1 0
-ends_2 b = b.add_line_if-b.ensures.ends ∙ ap (λ (u : Bool). b.add_line_if-a.result + choose u 1 0) (told (UP.After-one_if-2 b))
+ends_2 b = b.add_line_if-b.ensures.ends ∙ ap (λ (u : Bool). b.add_line_if-a.result + choose u 1 0) b.is_at-is_annotation.ensures
 
 -- the frame's own cell fits behind the double lines
 room : (b : After-add_line_if-b) → b.add_line_if-b.result < plane_cells
 room b =
-    omega (arith, b.if-from-one_if-gt-PLANE_CELLS.false, ends (UP.After-add_line_if-a b), ends_2 b, output_one (UP.After-one_if-2 b), annotation_one (UP.After-one_if-2 b))
+    let n : b.one_if-2.result ≡ choose (is_at b.args.o.right b.args.x) 1 0 = b.one_if-2.ensures ∙ ap (λ (u : Bool). choose u 1 0) b.is_at-is_annotation.ensures in
+    omega (arith, b.if-from-one_if-gt-PLANE_CELLS.false, b.add_line_if-a.ensures.ends, ends_2 b, b.one_if.ensures, n)
 
 pub returns-then-row-ge-PLANE_ROWS : goal.returns-then-row-ge-PLANE_ROWS
 returns-then-row-ge-PLANE_ROWS c =
@@ -70,6 +71,10 @@ overflow_add-result c = omega (arith, room (goal.at.overflow_add-result c).After
 
 pub returns : goal.returns
 returns c =
-    record { made = cells_added c.args.o c.args.x c.args.region c.args.row c.args.s c.args.plane.now c.is_at-is_annotation.result (told (goal.at.returns c).After-one_if-2) (low (goal.at.returns c).After-one_if-2)
+    record {
+      made = cells_added c.args.o c.args.x c.args.region c.args.row c.args.s c.args.plane.now c.is_at-is_annotation.result (told (goal.at.returns c).After-one_if-2) (low (goal.at.returns c).After-one_if-2)
           (omega (arith, c.if-from-one_if-gt-PLANE_CELLS.false, output_one (goal.at.returns c).After-one_if-2, annotation_one (goal.at.returns c).After-one_if-2)) c.add_line_if-a.result c.add_line_if-b.result _ _ _
-          c.add_line_if-a.ensures.cells c.add_line_if-b.ensures.cells c.put_cell.ensures.cells c.column_if-output.ensures c.column_if-annotation.ensures; fits = record { few = omega (arith, room (goal.at.returns c).After-add_line_if-b); low = λ z. low (goal.at.returns c).After-one_if-2 }; before = kept_then c.args.plane.now _ _ c.args.row c.add_line_if-a.ensures.before (kept_then _ _ _ c.args.row c.add_line_if-b.ensures.before c.put_cell.ensures.before) }
+          c.add_line_if-a.ensures.cells c.add_line_if-b.ensures.cells c.put_cell.ensures.cells c.column_if-output.ensures c.column_if-annotation.ensures;
+      fits = record { few = omega (arith, room (goal.at.returns c).After-add_line_if-b); low = λ z. low (goal.at.returns c).After-one_if-2 };
+      before = kept_then c.args.plane.now _ _ c.args.row c.add_line_if-a.ensures.before (kept_then _ _ _ c.args.row c.add_line_if-b.ensures.before c.put_cell.ensures.before);
+    }

@@ -7,7 +7,7 @@ add_line-requires c = c.requires
 
 pub returns-then-t : goal.returns-then-t
 returns-then-t c =
-    (c.add_line.ensures.made ∙ rw c.if-t.true, c.add_line.ensures.fits)
+    record { made = c.add_line.ensures.made ∙ rw c.if-t.true; fits = c.add_line.ensures.fits }
 
 pub returns : goal.returns
-returns c = let w = (rw c.if-t.false, c.requires) in record { made = w.0; fits = w.1 }
+returns c = record { made = rw c.if-t.false; fits = c.requires }

@@ -19,4 +19,4 @@ pub returns : goal.returns
 returns c =
     let q = c.loop-i.invariant in
     let f = row_end _ _ _ _ c.args.width _ q.1 q.0 c.loop-i-test.false in
-    (f.cells, f.before)
+    record { cells = f.cells; before = f.before }

@@ -1,5 +1,4 @@
 -- `sketch::put_layer` meets its contract.
-use Prim.Native.Nat.{◌-◌}
 use mathlib.Core.Path.{◌∙◌}
 use Rattle.sketch.proofs.LayerLaws.{layering_start, layering_more, layering_end}
 use native.Mathlib.Omega.{arith}

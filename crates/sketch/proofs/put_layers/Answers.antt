@@ -1,31 +1,17 @@
 -- `sketch::put_layers` meets its contract.
-use mathlib.Core.Path.{refl}
 use Rattle.print.proofs.WrittenLaws.{written_then, written_within}
 use Rattle.sketch.specs.Drawings.{layers_lines}
 use native.Mathlib.Omega.{arith}
 use Rattle.sketch.proofs.put_layers.Goals as goal
-use Rattle.sketch.proofs.put_layers.Tie as tie
-
--- LEFT slice-aggregate-put-layer : tie.Need-slice-aggregate-put-layer
--- slice-aggregate-put-layer c = refl
 
 pub put_layer-a-requires : goal.put_layer-a-requires
 put_layer-a-requires c = (omega (arith, c.requires.0, c.requires.1.rows), c.requires.1)
 
--- LEFT slice-aggregate-put-layer-2 : tie.Need-slice-aggregate-put-layer-2
--- slice-aggregate-put-layer-2 c = refl
-
 pub put_layer-b-requires : goal.put_layer-b-requires
 put_layer-b-requires c = (omega (arith, c.put_layer-a.auto.out, c.put_layer-a.ensures.short, c.requires.0, c.requires.1.rows), c.requires.2)
 
--- LEFT slice-aggregate-put-layer-3 : tie.Need-slice-aggregate-put-layer-3
--- slice-aggregate-put-layer-3 c = refl
-
 pub put_layer-c-requires : goal.put_layer-c-requires
 put_layer-c-requires c = (omega (arith, c.put_layer-a.auto.out, c.put_layer-a.ensures.short, c.put_layer-b.auto.out, c.put_layer-b.ensures.short, c.requires.0, c.requires.1.rows), c.requires.3)
-
--- LEFT slice-aggregate-put-layer-4 : tie.Need-slice-aggregate-put-layer-4
--- slice-aggregate-put-layer-4 c = refl
 
 pub put_layer-requires : goal.put_layer-requires
 put_layer-requires c = (omega (arith, c.put_layer-a.auto.out, c.put_layer-a.ensures.short, c.put_layer-b.auto.out, c.put_layer-b.ensures.short, c.put_layer-c.auto.out, c.put_layer-c.ensures.short, c.requires.0, c.requires.1.rows), c.requires.4)

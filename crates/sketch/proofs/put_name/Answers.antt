@@ -1,27 +1,16 @@
 -- `sketch::put_name` meets its contract.
-use mathlib.Core.Path.{refl}
 use Prim.Native.Nat.{◌<◌}
 use Rattle.print.proofs.WrittenLaws.{written_then, written_within, written_as}
 use Rattle.sketch.proofs.RegionLaws.{unnamed, no_regions, first-text, name-room}
 use native.Mathlib.Omega.{arith}
 use Rattle.sketch.proofs.put_name.Goals as goal
-use Rattle.sketch.proofs.put_name.Tie as tie
-
--- LEFT slice-aggregate-put-word : tie.Need-slice-aggregate-put-word
--- slice-aggregate-put-word c = refl
 
 pub returns-then-not-named : goal.returns-then-not-named
 returns-then-not-named c = written_within (written_as c.put_word.ensures (unnamed _ _ c.if-not-named.true)) (omega arith)
 
--- LEFT slice-aggregate-put-word-2 : tie.Need-slice-aggregate-put-word-2
--- slice-aggregate-put-word-2 c = refl
-
 pub returns-then-n-eq0 : goal.returns-then-n-eq0
 returns-then-n-eq0 c = let a = c.args in
     written_within (written_as c.put_word-then-n-eq0.ensures (no_regions a.bytes.now a.spans.now a.n a.named c.if-n-eq0.true)) (omega arith)
-
--- LEFT slice-aggregate-put-word-3 : tie.Need-slice-aggregate-put-word-3
--- slice-aggregate-put-word-3 c = refl
 
 pub put_text-requires : goal.put_text-requires
 put_text-requires c = let m = name-room c.requires.1 (omega (arith, c.if-n-eq0.false)) in

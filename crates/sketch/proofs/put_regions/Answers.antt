@@ -1,13 +1,8 @@
 -- `sketch::put_regions` meets its contract.
-use Prim.Native.Nat.{◌-◌}
-use mathlib.Core.Path.{◌∙◌, refl}
+use mathlib.Core.Path.{◌∙◌}
 use Rattle.sketch.proofs.RegionLaws.{listing_start, listing_room, listing_more, listing_end}
 use native.Mathlib.Omega.{arith}
 use Rattle.sketch.proofs.put_regions.Goals as goal
-use Rattle.sketch.proofs.put_regions.Tie as tie
-
--- LEFT slice-aggregate-put-count : tie.Need-slice-aggregate-put-count invariant-loop decreases-loop
--- slice-aggregate-put-count c = refl
 
 pub loop-k-init : goal.loop-k-init
 loop-k-init c = listing_start _ _ _ _ _ _ (omega (arith, c.put_count-m.auto.out, c.put_count-m.ensures.short))

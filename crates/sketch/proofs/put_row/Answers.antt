@@ -1,12 +1,10 @@
 -- `sketch::put_row` meets its contract.
 use native.Mathlib.Omega.{arith}
-use Prim.Native.Nat.{◌-◌}
-use mathlib.Core.Path.{◌∙◌, refl}
+use mathlib.Core.Path.{◌∙◌}
 use Rattle.lists.specs.Picture.{pic}
 use Rattle.lists.proofs.PictureLaws.{within_in, place-fits}
 use Rattle.sketch.proofs.LayerLaws.{rowing_start, rowing_more, rowing_end}
 use Rattle.sketch.proofs.put_row.Goals as goal
-use Rattle.sketch.proofs.put_row.Tie as tie
 
 pub loop-x-init : goal.loop-x-init
 loop-x-init c = rowing_start _ _ _ _ _
@@ -31,9 +29,6 @@ loop-x-preserved c = let t = c.loop-x-test.true in
     let a = c.args in
     rowing_more c.loop-x.invariant t c.requires.0 c.requires.2.columns (within_in a.w a.h (pic a.w a.layer.now) c.loop-x.x a.y t c.requires.1)
     c.put_code-n.ensures c.put_code-n.auto.out
-
--- LEFT slice-aggregate-put-word : tie.Need-slice-aggregate-put-word invariant-loop decreases-loop
--- slice-aggregate-put-word c = refl
 
 pub put_word-requires : goal.put_word-requires
 put_word-requires c = omega (arith, c.loop-x.invariant.written.short, c.loop-x.invariant.along, c.loop-x.invariant.long, c.requires.2.columns)

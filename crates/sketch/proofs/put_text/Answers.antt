@@ -1,17 +1,13 @@
 -- `sketch::put_text` meets its contract.
-use mathlib.Core.Path.{ap, ◌∙◌, refl}
+use mathlib.Core.Path.{ap, ◌∙◌}
 use lib.ListN.{length}
 use Rattle.sketch.proofs.RegionLaws.{length-text, written_text}
 use native.Mathlib.Omega.{arith}
 use Rattle.sketch.proofs.put_text.Goals as goal
-use Rattle.sketch.proofs.put_text.Tie as tie
 
 pub put_word-a-requires : goal.put_word-a-requires
 put_word-a-requires c =
     omega (arith, c.requires.0, ap length c.text_at.ensures ∙ length-text c.args.bytes.now c.args.spans.now c.args.k c.requires.2)
-
--- LEFT slice-aggregate-put-word : tie.Need-slice-aggregate-put-word
--- slice-aggregate-put-word c = refl
 
 pub put_word-requires : goal.put_word-requires
 put_word-requires c =

@@ -38,12 +38,13 @@ add_cells-requires c =
 
 pub returns-then-k-count : goal.returns-then-k-count
 returns-then-k-count c =
-    let a = c.args in (
-      λ rs n m.
+    let a = c.args in record {
+      made = λ rs n m.
           c.add_cells.ensures.made
-          ∙ with_region a.o (frame_of grid (canvas c.args.w c.args.h c.args.layer.now) c.args.w c.args.h) rs a.row a.y a.x (row_of c.args.s c.args.plane.now c.args.row) _ (number_at (frame_of grid (canvas c.args.w c.args.h c.args.layer.now) c.args.w c.args.h) rs a.w a.h a.layer.now a.found.now a.x a.y c.requires.1 c.requires.2 c.requires.5 m) (omega (arith, n, c.if-k-count.true)),
-      c.add_cells.ensures.1,
-    )
+          ∙ with_region a.o (frame_of grid (canvas c.args.w c.args.h c.args.layer.now) c.args.w c.args.h) rs a.row a.y a.x (row_of c.args.s c.args.plane.now c.args.row) _ (number_at (frame_of grid (canvas c.args.w c.args.h c.args.layer.now) c.args.w c.args.h) rs a.w a.h a.layer.now a.found.now a.x a.y c.requires.1 c.requires.2 c.requires.5 m) (omega (arith, n, c.if-k-count.true));
+      fits = c.add_cells.ensures.fits;
+      before = c.add_cells.ensures.before;
+    }
 
 pub why_none-requires : goal.why_none-requires
 why_none-requires c =
@@ -51,9 +52,10 @@ why_none-requires c =
 
 pub returns : goal.returns
 returns c =
-    let a = c.args in (
-      λ rs n m.
+    let a = c.args in record {
+      made = λ rs n m.
           ap refused c.why_none.ensures
-          ∙ no_region_lem a.o (frame_of grid (canvas c.args.w c.args.h c.args.layer.now) c.args.w c.args.h) rs a.row a.y a.x (row_of c.args.s c.args.plane.now c.args.row) _ (number_at (frame_of grid (canvas c.args.w c.args.h c.args.layer.now) c.args.w c.args.h) rs a.w a.h a.layer.now a.found.now a.x a.y c.requires.1 c.requires.2 c.requires.5 m) (omega (arith, n, c.if-k-count.false)),
-      (tt, kept_refl a.plane.now a.row),
-    )
+          ∙ no_region_lem a.o (frame_of grid (canvas c.args.w c.args.h c.args.layer.now) c.args.w c.args.h) rs a.row a.y a.x (row_of c.args.s c.args.plane.now c.args.row) _ (number_at (frame_of grid (canvas c.args.w c.args.h c.args.layer.now) c.args.w c.args.h) rs a.w a.h a.layer.now a.found.now a.x a.y c.requires.1 c.requires.2 c.requires.5 m) (omega (arith, n, c.if-k-count.false));
+      fits = tt;
+      before = kept_refl a.plane.now a.row;
+    }

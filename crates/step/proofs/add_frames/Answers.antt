@@ -14,7 +14,7 @@ use Rattle.step.proofs.add_frames.Goals as goal
 use Rattle.step.proofs.add_frames.Goals.{After-make_row}
 
 -- the row's cells fit
-fits : (m : After-make_row) {t : RowSofar} → m.make-row.result ≡ Cells t → RowFit t (start m).args.s.rows
+fits : (m : After-make_row) {t : RowSofar} → m.make_row.result ≡ Cells t → RowFit t m.args.s.rows
 fits m z = subst (λ (r : RowMade). RowFits r m.args.s.rows) z m.make_row.ensures.fits
 
 pub make_row-requires : goal.make_row-requires
@@ -24,10 +24,7 @@ make_row-requires c =
 pub returns-then-n-eq0 : goal.returns-then-n-eq0
 returns-then-n-eq0 c =
     let a = c.args in
-    let k = c.make_row.ensures.before in (
-      λ rs n q. no_frames a.o (frame_of grid ((canvas c.args.w c.args.h c.args.layer.now)) c.args.w c.args.h) rs (canvas c.args.w c.args.h c.args.layer.now) a.w a.y a.s a.plane.now _ _ (c.make_row.ensures.made rs n q) _ c.in-Cells.is c.requires.2 k c.if-n-eq0.true,
-      record { plane = kept-fits a.plane.now _ a.s.rows k c.make_row.auto.plane c.requires.2.plane; width = c.requires.2.width },
-    )
+    let k = c.make_row.ensures.before in record { made = λ rs n q. no_frames a.o (frame_of grid ((canvas c.args.w c.args.h c.args.layer.now)) c.args.w c.args.h) rs (canvas c.args.w c.args.h c.args.layer.now) a.w a.y a.s a.plane.now _ _ (c.make_row.ensures.made rs n q) _ c.in-Cells.is c.requires.2 k c.if-n-eq0.true; fits = record { plane = kept-fits a.plane.now _ a.s.rows k c.make_row.auto.plane c.requires.2.plane; width = c.requires.2.width } }
 
 pub end_row-requires : goal.end_row-requires
 end_row-requires c =
@@ -40,12 +37,9 @@ end_row-requires c =
 
 pub returns-else-n-eq0 : goal.returns-else-n-eq0
 returns-else-n-eq0 c =
-    let a = c.args in (
-      λ rs n q. frames_added a.o (frame_of grid ((canvas c.args.w c.args.h c.args.layer.now)) c.args.w c.args.h) rs (canvas c.args.w c.args.h c.args.layer.now) a.w a.y a.s a.plane.now _ _ (c.make_row.ensures.made rs n q) _ c.in-Cells.is c.requires.2 c.make_row.ensures.before c.if-n-eq0.false _ c.end_row.ensures.rows,
-      record { plane = c.end_row.ensures.fits; width = (fits (goal.at.returns-else-n-eq0 c).After-make_row c.in-Cells.is).few },
-    )
+    let a = c.args in record { made = λ rs n q. frames_added a.o (frame_of grid ((canvas c.args.w c.args.h c.args.layer.now)) c.args.w c.args.h) rs (canvas c.args.w c.args.h c.args.layer.now) a.w a.y a.s a.plane.now _ _ (c.make_row.ensures.made rs n q) _ c.in-Cells.is c.requires.2 c.make_row.ensures.before c.if-n-eq0.false _ c.end_row.ensures.rows; fits = record { plane = c.end_row.ensures.fits; width = (fits (goal.at.returns-else-n-eq0 c).After-make_row c.in-Cells.is).few } }
 
 pub returns-in-NoCells : goal.returns-in-NoCells
 returns-in-NoCells c =
     let a = c.args in
-    (λ rs n q. frames_out a.o (frame_of grid ((canvas c.args.w c.args.h c.args.layer.now)) c.args.w c.args.h) rs (canvas c.args.w c.args.h c.args.layer.now) a.w a.y a.s a.plane.now _ _ (c.make_row.ensures.made rs n q) _ c.in-NoCells.is, tt)
+    record { made = λ rs n q. frames_out a.o (frame_of grid ((canvas c.args.w c.args.h c.args.layer.now)) c.args.w c.args.h) rs (canvas c.args.w c.args.h c.args.layer.now) a.w a.y a.s a.plane.now _ _ (c.make_row.ensures.made rs n q) _ c.in-NoCells.is; fits = tt }

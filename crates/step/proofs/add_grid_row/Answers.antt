@@ -12,7 +12,7 @@ add_line_row-requires c = c.requires.2
 pub returns-in-NoRows : goal.returns-in-NoRows
 returns-in-NoRows c =
     let a = c.args in
-    (λ rs n m. main_out a.o (frame_of grid ((canvas c.args.w c.args.h c.args.layer.now)) c.args.w c.args.h) rs (canvas c.args.w c.args.h c.args.layer.now) a.w a.y a.s a.plane.now _ _ c.add_line_row.ensures.made _ c.in-NoRows.is, tt)
+    record { made = λ rs n m. main_out a.o (frame_of grid ((canvas c.args.w c.args.h c.args.layer.now)) c.args.w c.args.h) rs (canvas c.args.w c.args.h c.args.layer.now) a.w a.y a.s a.plane.now _ _ c.add_line_row.ensures.made _ c.in-NoRows.is; fits = tt }
 
 pub add_line_row-requires-2 : goal.add_line_row-requires-2
 add_line_row-requires-2 c = rows_fit c.in-Sofar.is c.add_line_row.ensures.fits
@@ -20,7 +20,7 @@ add_line_row-requires-2 c = rows_fit c.in-Sofar.is c.add_line_row.ensures.fits
 pub returns-in-NoRows-add_line_row : goal.returns-in-NoRows-add_line_row
 returns-in-NoRows-add_line_row c =
     let a = c.args in
-    (λ rs n m. below_out a.o (frame_of grid ((canvas c.args.w c.args.h c.args.layer.now)) c.args.w c.args.h) rs (canvas c.args.w c.args.h c.args.layer.now) a.w a.y a.s a.plane.now _ _ c.add_line_row.ensures.made _ c.in-Sofar.is _ c.is_at.ensures _ _ c.add_line_row-2.ensures.made _ c.in-NoRows-add_line_row.is, tt)
+    record { made = λ rs n m. below_out a.o (frame_of grid ((canvas c.args.w c.args.h c.args.layer.now)) c.args.w c.args.h) rs (canvas c.args.w c.args.h c.args.layer.now) a.w a.y a.s a.plane.now _ _ c.add_line_row.ensures.made _ c.in-Sofar.is _ c.is_at.ensures _ _ c.add_line_row-2.ensures.made _ c.in-NoRows-add_line_row.is; fits = tt }
 
 pub add_frames-requires : goal.add_frames-requires
 add_frames-requires c =
@@ -28,8 +28,8 @@ add_frames-requires c =
 
 pub returns : goal.returns
 returns c =
-    let a = c.args in (
-      λ rs n m. c.add_frames.ensures.made rs n m
-          ∙ lines_added a.o (frame_of grid ((canvas c.args.w c.args.h c.args.layer.now)) c.args.w c.args.h) rs (canvas c.args.w c.args.h c.args.layer.now) a.w a.y a.s a.plane.now _ _ c.add_line_row.ensures.made _ c.in-Sofar.is _ c.is_at.ensures _ _ c.add_line_row-2.ensures.made _ c.in-Sofar-add_line_row.is,
-      c.add_frames.ensures.fits,
-    )
+    let a = c.args in record {
+      made = λ rs n m. c.add_frames.ensures.made rs n m
+          ∙ lines_added a.o (frame_of grid ((canvas c.args.w c.args.h c.args.layer.now)) c.args.w c.args.h) rs (canvas c.args.w c.args.h c.args.layer.now) a.w a.y a.s a.plane.now _ _ c.add_line_row.ensures.made _ c.in-Sofar.is _ c.is_at.ensures _ _ c.add_line_row-2.ensures.made _ c.in-Sofar-add_line_row.is;
+      fits = c.add_frames.ensures.fits;
+    }

@@ -12,11 +12,11 @@ add_grid_row-requires c =
 
 pub returns-in-NoRows : goal.returns-in-NoRows
 returns-in-NoRows c =
-    (growing_out c.loop-y.invariant c.loop-y-test.true _ _ c.add_grid_row.ensures.made _ c.in-NoRows.is, tt)
+    record { made = growing_out c.loop-y.invariant c.loop-y-test.true _ _ c.add_grid_row.ensures.made _ c.in-NoRows.is; fits = tt }
 
 pub loop-y-preserved : goal.loop-y-preserved
 loop-y-preserved c =
     growing_more c.loop-y.invariant c.loop-y-test.true _ _ c.add_grid_row.ensures.made c.add_grid_row.ensures.fits c.add_grid_row.auto.plane _ c.in-Sofar.is
 
 pub returns : goal.returns
-returns c = let q = c.loop-y.invariant in (growing_end q c.loop-y-test.false, q.fits.plane)
+returns c = let q = c.loop-y.invariant in record { made = growing_end q c.loop-y-test.false; fits = q.fits.plane }

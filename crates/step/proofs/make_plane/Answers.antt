@@ -6,4 +6,4 @@ use Rattle.step.proofs.make_plane.Goals as goal
 pub returns : goal.returns
 returns c =
     let a = c.args in
-    (c.add_grid_rows.ensures.made (rects_of a.rects.now a.count) (length_run (rect_at a.rects.now) 0 a.count) c.number_frames.ensures, c.add_grid_rows.ensures.fits)
+    record { made = c.add_grid_rows.ensures.made (rects_of a.rects.now a.count) (length_run (rect_at a.rects.now) 0 a.count) c.number_frames.ensures; fits = c.add_grid_rows.ensures.fits }

@@ -26,7 +26,7 @@ pub returns-in-NoCells : goal.returns-in-NoCells
 returns-in-NoCells c =
     let f = c.add_frame.ensures in
     let q = filling_out c.loop-x.invariant c.loop-x-test.true _ _ f.made f.before _ c.in-NoCells.is in
-    (q.0, (tt, q.1))
+    record { made = q.0; fits = tt; before = q.1 }
 
 pub corner_in_row-x-requires-in-loop-x : goal.corner_in_row-x-requires-in-loop-x
 corner_in_row-x-requires-in-loop-x c =
@@ -41,4 +41,4 @@ loop-x-preserved c =
     filling_more c.loop-x.invariant c.loop-x-test.true _ _ f.made f.before f.fits c.add_frame.auto.plane _ c.in-Cells.is _ c.requires.1 c.corner_in_row-x-in-loop-x.ensures
 
 pub returns : goal.returns
-returns c = let q = c.loop-x.invariant in (filling_end q c.loop-x-test.false, (q.fits, q.kept))
+returns c = let q = c.loop-x.invariant in record { made = filling_end q c.loop-x-test.false; fits = q.fits; before = q.kept }

@@ -31,15 +31,12 @@ returns-in-Made c =
     let p = c.requires in
     let u = used (goal.at.returns-in-Made c).In-Read in
     let e = ap (λ (x : PlaneMade). plane_made x c.make_plane.new.plane) (sym c.in-Made.is) ∙ c.make_plane.ensures.made in
-    let f = subst (λ (x : PlaneMade). MadeFits x c.make_plane.new.plane) c.in-Made.is c.make_plane.ensures.fits in (
-      with_plane _ _ _ _ _ _ _ (told (goal.at.returns-in-Made c).In-Read) _ e,
-      plane-held _ _ _ _ _ c.in-Read.count c.in-Read.field-1 (c.read_regions.new.rects) _ (c.read_regions.new.bytes) (c.read_regions.new.spans) e f u (omega (arith, p.regions.all_texts, c.read_regions.auto.bytes)) (omega (arith, u.0, p.regions.two_each, c.read_regions.auto.spans)),
-    )
+    let f = subst (λ (x : PlaneMade). MadeFits x c.make_plane.new.plane) c.in-Made.is c.make_plane.ensures.fits in record { answer = with_plane _ _ _ _ _ _ _ (told (goal.at.returns-in-Made c).In-Read) _ e; held = plane-held _ _ _ _ _ c.in-Read.count c.in-Read.field-1 (c.read_regions.new.rects) _ (c.read_regions.new.bytes) (c.read_regions.new.spans) e f u (omega (arith, p.regions.all_texts, c.read_regions.auto.bytes)) (omega (arith, u.0, p.regions.two_each, c.read_regions.auto.spans)) }
 
 pub returns-in-NotMade : goal.returns-in-NotMade
 returns-in-NotMade c =
-    (no_plane _ _ _ _ _ _ _ (told (goal.at.returns-in-NotMade c).In-Read) _ (ap (λ (x : PlaneMade). plane_made x c.make_plane.new.plane) (sym c.in-NotMade.is) ∙ c.make_plane.ensures.made), tt)
+    record { answer = no_plane _ _ _ _ _ _ _ (told (goal.at.returns-in-NotMade c).In-Read) _ (ap (λ (x : PlaneMade). plane_made x c.make_plane.new.plane) (sym c.in-NotMade.is) ∙ c.make_plane.ensures.made); held = tt }
 
 pub returns-in-NotRead : goal.returns-in-NotRead
 returns-in-NotRead c =
-    (no_regions _ _ _ _ _ _ _ (ap (λ (x : RegionsRead). regions_in x c.read_regions.new.rects c.read_regions.new.bytes c.read_regions.new.spans) (sym c.in-NotRead.is) ∙ c.read_regions.ensures.answer), tt)
+    record { answer = no_regions _ _ _ _ _ _ _ (ap (λ (x : RegionsRead). regions_in x c.read_regions.new.rects c.read_regions.new.bytes c.read_regions.new.spans) (sym c.in-NotRead.is) ∙ c.read_regions.ensures.answer); held = tt }

@@ -36,17 +36,14 @@ gather-requires c =
 
 pub returns-in-Texts : goal.returns-in-Texts
 returns-in-Texts c =
-    let a = c.args in (
-      gathered (canvas a.w a.h a.text.now) (canvas c.args.w c.args.h c.args.thins.now) a.w a.h _ (told (goal.at.returns-in-Texts c).In-Regions) _ (ap (λ (r : Gathered). gathered_in r c.gather.new.bytes c.gather.new.spans c.in-Regions.n) (sym c.in-Texts.is) ∙ c.gather.ensures.answer),
-      (few (goal.at.returns-in-Texts c).In-Regions, subst (λ (r : Gathered). SpansIn r c.gather.new.bytes c.gather.new.spans c.in-Regions.n) c.in-Texts.is c.gather.ensures.spans),
-    )
+    let a = c.args in record { answer = gathered (canvas a.w a.h a.text.now) (canvas c.args.w c.args.h c.args.thins.now) a.w a.h _ (told (goal.at.returns-in-Texts c).In-Regions) _ (ap (λ (r : Gathered). gathered_in r c.gather.new.bytes c.gather.new.spans c.in-Regions.n) (sym c.in-Texts.is) ∙ c.gather.ensures.answer); used = (few (goal.at.returns-in-Texts c).In-Regions, subst (λ (r : Gathered). SpansIn r c.gather.new.bytes c.gather.new.spans c.in-Regions.n) c.in-Texts.is c.gather.ensures.spans) }
 
 pub returns-in-NotGathered : goal.returns-in-NotGathered
 returns-in-NotGathered c =
     let a = c.args in
-    (not_gathered (canvas a.w a.h a.text.now) (canvas c.args.w c.args.h c.args.thins.now) a.w a.h _ (told (goal.at.returns-in-NotGathered c).In-Regions) _ (ap (λ (r : Gathered). gathered_in r c.gather.new.bytes c.gather.new.spans c.in-Regions.n) (sym c.in-NotGathered.is) ∙ c.gather.ensures.answer), tt)
+    record { answer = not_gathered (canvas a.w a.h a.text.now) (canvas c.args.w c.args.h c.args.thins.now) a.w a.h _ (told (goal.at.returns-in-NotGathered c).In-Regions) _ (ap (λ (r : Gathered). gathered_in r c.gather.new.bytes c.gather.new.spans c.in-Regions.n) (sym c.in-NotGathered.is) ∙ c.gather.ensures.answer); used = tt }
 
 pub returns-in-NotCounted : goal.returns-in-NotCounted
 returns-in-NotCounted c =
     let a = c.args in
-    (not_counted (canvas a.w a.h a.text.now) (canvas c.args.w c.args.h c.args.thins.now) a.w a.h _ (ap (λ (r : Counted). regions_in r c.regions.new.rects) (sym c.in-NotCounted.is) ∙ c.regions.ensures), tt)
+    record { answer = not_counted (canvas a.w a.h a.text.now) (canvas c.args.w c.args.h c.args.thins.now) a.w a.h _ (ap (λ (r : Counted). regions_in r c.regions.new.rects) (sym c.in-NotCounted.is) ∙ c.regions.ensures); used = tt }
