@@ -1,5 +1,6 @@
 // Slices cleared and written. The laws of lists that the other crates use stand in specs/ and proofs/.
 #![tactic(auto)]
+
 ghost use Rattle.std.specs.Prelude.{◌≡◌, ◌+◌, ◌≤◌, length};
 ghost use Rattle.lists.specs.Put.{put};
 ghost use Rattle.lists.specs.Zeros.{zeros};

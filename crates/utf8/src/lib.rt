@@ -1,5 +1,6 @@
 // UTF-8 read: what stands at a place of the bytes.
 #![tactic(auto)]
+
 ghost use Rattle.std.specs.Prelude.{[], ◌∷◌, ◌≡◌, ◌+◌, ◌-◌, ◌<◌, ◌≤◌, length, drop};
 ghost use Rattle.utf8.specs.Utf8.{more, decode, tail, ◌–◌};
 ghost use Rattle.utf8.specs.Passed.{code_of, bytes_of};

@@ -9,13 +9,16 @@ use Rattle.outcome_lines.proofs.OutcomeLaws.{Reported, lent_printable, end_repor
 use native.Mathlib.Omega.{arith}
 use borrow.Author.Rules.{rules}
 use Rattle.lent_reports.proofs.put_lent_plane.Goals as goal
-use Rattle.lent_reports.proofs.put_lent_plane.Goals.{After-read_lent_plane-stated, Start}
+use Rattle.lent_reports.proofs.put_lent_plane.Goals.{After-read_lent_plane-stated}
 
-abbrev lent : Start → LentPlane
-lent s = let a = s.args in record { rows = a.rows.now; kinds = a.kinds.now; regions = a.regions.now; offsets = a.offsets.now; sizes = a.sizes.now; bytes = a.bytes.now }
-
-told : (c : After-read_lent_plane-stated) → Reported (lent_policy (lent (UP.Start c))) record_bytes c.read_lent_plane-stated.result c.read_lent_plane-stated.new.out
-told c = end_reported lent_sizes (lent_policy (lent (UP.Start c))) _ _ _ _ _ record_bytes (lent_printable (lent (UP.Start c))) (search rules) (search rules) c.read_lent_plane-stated.ensures
+told : (c : After-read_lent_plane-stated)
+    → let a = c.args in
+    let l : LentPlane = record { rows = a.rows.now; kinds = a.kinds.now; regions = a.regions.now; offsets = a.offsets.now; sizes = a.sizes.now; bytes = a.bytes.now } in
+    Reported (lent_policy l) record_bytes c.read_lent_plane-stated.result c.read_lent_plane-stated.new.out
+told c =
+    let a = c.args in
+    let l : LentPlane = record { rows = a.rows.now; kinds = a.kinds.now; regions = a.regions.now; offsets = a.offsets.now; sizes = a.sizes.now; bytes = a.bytes.now } in
+    end_reported lent_sizes (lent_policy l) _ _ _ _ _ record_bytes (lent_printable l) (search rules) (search rules) c.read_lent_plane-stated.ensures
 
 pub slice_bounds-read_lent_plane-end : goal.slice_bounds-read_lent_plane-end
 slice_bounds-read_lent_plane-end c = refl
