@@ -1,5 +1,4 @@
 -- `plane_rows::put_line` meets its contract.
-use Prim.Native.Nat.{◌-◌}
 use native.Mathlib.Omega.{arith}
 use Rattle.cells.proofs.FillLaws.{row-start, row_next, row_end}
 use Rattle.plane_rows.proofs.put_line.Goals as goal

@@ -29,9 +29,6 @@ offset_bounds-found-y c = omega (arith, inside (goal.at.offset_bounds-found-y c)
 pub bounds-found-y : goal.bounds-found-y
 bounds-found-y c = inside (goal.at.bounds-found-y c).Start
 
-pub overflow_cast-k : goal.overflow_cast-k
-overflow_cast-k c = let a = c.args in omega (arith, c.shared_slice_known-3-1.given (a.y * a.w + a.x))
-
 pub add_cells-requires : goal.add_cells-requires
 add_cells-requires c =
     (omega (arith, c.if-k-count.true, c.requires.0.few), c.requires.3, c.requires.4)

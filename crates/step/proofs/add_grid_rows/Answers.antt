@@ -1,5 +1,4 @@
 -- `step::add_grid_rows` meets its contract.
-use Prim.Native.Nat.{◌-◌}
 use Rattle.step.proofs.RowsLaws.{growing_start, growing_more, growing_out, growing_end}
 use Rattle.step.proofs.add_grid_rows.Goals as goal
 
