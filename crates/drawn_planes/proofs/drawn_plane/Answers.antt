@@ -38,15 +38,15 @@ shape_of-text-in-Rows c = c.read_plane.auto.text ∙ c.draw_sheet.auto.text
 pub returns-in-Rows : goal.returns-in-Rows
 returns-in-Rows c =
     let q = ap (λ (x : PlaneRead). plane_read x c.read_plane.new.text c.read_plane.new.bytes c.read_plane.new.spans) (sym c.in-Rows.is) ∙ c.read_plane.ensures.answer in
-    (with_plane c.args.s.now c.in-Drawn.o (told (goal.at.returns-in-Rows c).In-Drawn) (shown (goal.at.returns-in-Rows c).In-Drawn) _ _ _ _ _ (held c) q, (held c, name_in c.args.s.now c.in-Drawn.o (told (goal.at.returns-in-Rows c).In-Drawn) (shown (goal.at.returns-in-Rows c).In-Drawn) _ _ _ _ _ (held c) q))
+    record { plane = with_plane c.args.s.now c.in-Drawn.o (told (goal.at.returns-in-Rows c).In-Drawn) (shown (goal.at.returns-in-Rows c).In-Drawn) _ _ _ _ _ (held c) q; held = (held c, name_in c.args.s.now c.in-Drawn.o (told (goal.at.returns-in-Rows c).In-Drawn) (shown (goal.at.returns-in-Rows c).In-Drawn) _ _ _ _ _ (held c) q) }
 
 pub shape_of-text-in-NoPlane : goal.shape_of-text-in-NoPlane
 shape_of-text-in-NoPlane c = c.read_plane.auto.text ∙ c.draw_sheet.auto.text
 
 pub returns-in-NoPlane : goal.returns-in-NoPlane
 returns-in-NoPlane c =
-    (no_plane c.args.s.now c.in-Drawn.o (told (goal.at.returns-in-NoPlane c).In-Drawn) (shown (goal.at.returns-in-NoPlane c).In-Drawn) _ (ap (λ (x : PlaneRead). plane_read x c.read_plane.new.text c.read_plane.new.bytes c.read_plane.new.spans) (sym c.in-NoPlane.is) ∙ c.read_plane.ensures.answer), tt)
+    record { plane = no_plane c.args.s.now c.in-Drawn.o (told (goal.at.returns-in-NoPlane c).In-Drawn) (shown (goal.at.returns-in-NoPlane c).In-Drawn) _ (ap (λ (x : PlaneRead). plane_read x c.read_plane.new.text c.read_plane.new.bytes c.read_plane.new.spans) (sym c.in-NoPlane.is) ∙ c.read_plane.ensures.answer); held = tt }
 
 pub returns-in-NotDrawn : goal.returns-in-NotDrawn
 returns-in-NotDrawn c =
-    (not_drawn c.args.s.now _ (ap outline_in (sym c.in-NotDrawn.is) ∙ c.draw_sheet.ensures.answer), tt)
+    record { plane = not_drawn c.args.s.now _ (ap outline_in (sym c.in-NotDrawn.is) ∙ c.draw_sheet.ensures.answer); held = tt }

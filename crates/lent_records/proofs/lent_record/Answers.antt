@@ -34,4 +34,4 @@ returns c =
     let w = c.write_recognized.ensures in
     let e = c.lent_table-t.ensures.table in
     let o = c.args.out.now in
-    (w.outcome ∙ ap (λ (m : Reading Table). outcome_of m (length o)) e, w.out ∙ ap (λ (m : Reading Table). record_of m o) e)
+    record { outcome = w.outcome ∙ ap (λ (m : Reading Table). outcome_of m (length o)) e; out = w.out ∙ ap (λ (m : Reading Table). record_of m o) e }

@@ -31,8 +31,8 @@ plane_table-requires c =
 pub returns-in-Rows : goal.returns-in-Rows
 returns-in-Rows c =
     let p = c.plane_table.ensures in
-    (p.table ∙ lent-policy (lent (goal.at.returns-in-Rows c).Start) (record { plane = plane_in c.load.new.plane c.in-Rows.n; texts = texts_in c.args.bytes.now c.load.new.spans (length c.args.offsets.now) }) (told (goal.at.returns-in-Rows c).In-Rows), p.held)
+    record { table = p.table ∙ lent-policy (lent (goal.at.returns-in-Rows c).Start) (record { plane = plane_in c.load.new.plane c.in-Rows.n; texts = texts_in c.args.bytes.now c.load.new.spans (length c.args.offsets.now) }) (told (goal.at.returns-in-Rows c).In-Rows); held = p.held }
 
 pub returns-in-NotLoaded : goal.returns-in-NotLoaded
 returns-in-NotLoaded c =
-    (not_lent (lent (goal.at.returns-in-NotLoaded c).Start) _ (ap (λ (m : Loaded). loaded_in m c.load.new.plane c.args.bytes.now c.load.new.spans (length c.args.offsets.now)) (sym c.in-NotLoaded.is) ∙ c.load.ensures.loaded), tt)
+    record { table = not_lent (lent (goal.at.returns-in-NotLoaded c).Start) _ (ap (λ (m : Loaded). loaded_in m c.load.new.plane c.args.bytes.now c.load.new.spans (length c.args.offsets.now)) (sym c.in-NotLoaded.is) ∙ c.load.ensures.loaded); held = tt }
