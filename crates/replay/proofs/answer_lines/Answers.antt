@@ -1,6 +1,5 @@
 -- `replay::answer_lines` meets its contract.
 use mathlib.Core.Path.{refl}
-use Prim.Native.Nat.{◌-◌}
 use Rattle.replay.proofs.Replaying.{answering_start, answering_more, answering_stop, answering_last, answering_full, answering_end}
 use native.Mathlib.Omega.{arith}
 use Rattle.replay.proofs.answer_lines.Goals as goal
