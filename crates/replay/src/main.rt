@@ -2,6 +2,7 @@
 // the judge of the Rust prints it: `split` is a text for the value split, `drawing` a sheet, `plane` a lent plane; `sheet` and
 // `table` are a sheet and a lent plane whose record is asked for.
 #![tactic(auto)]
+
 ghost use Rattle.std.specs.Prelude.{◌≡◌, ◌+◌, ◌-◌, ◌≤◌, length, take, drop};
 ghost use Rattle.model.specs.Limits.{text_bytes};
 ghost use Rattle.lent_lists.specs.LentText.{lent_in};
@@ -12,6 +13,7 @@ ghost use Rattle.replay.specs.Answers.{split_answer, drawing_answer, sheet_answe
 use lent_lists::LentLists;
 use lines::{LINE_BYTES, LineText};
 use model::limits::TEXT_BYTES;
+use std::io::{self, Read, Write};
 
 // What became of a line: its answer ends at an index, or it is malformed.
 #[derive(Clone, Copy)]
@@ -202,13 +204,12 @@ fn shift(input: &mut [u8], at: usize, end: usize)
     }
 }
 
-// Reads once, behind the bytes that wait, and answers how many bytes came.
-fn read_more(input: &mut [u8], count: usize) -> usize
+// Reads once, behind the bytes that wait, and answers how many bytes came: none where the read fails.
+fn read_more<R: Read>(reader: &mut R, input: &mut [u8], count: usize) -> usize
     requires { count ≤ length input.old }
     ensures { count + result ≤ length input.new }
 {
-    let got = libc::read(libc::STDIN_FILENO, &mut input[count..]);
-    io::count(got, &input[count..])
+    reader.read(&mut input[count..]).unwrap_or(0)
 }
 
 // How many bytes of the input wait to be answered, and whether to go on.
@@ -219,7 +220,9 @@ struct Waiting {
 }
 
 // Reads once, writes the answers to the lines that are there, and keeps what is left of the input.
-fn replay_some(
+fn replay_some<R: Read, W: Write>(
+    reader: &mut R,
+    writer: &mut W,
     input: &mut [u8],
     text: &mut [u8],
     scratch: &mut [u8],
@@ -229,12 +232,12 @@ fn replay_some(
     requires { (count ≤ length input.old) × (length text.old ≡ text_bytes) × (length scratch.old ≡ text_bytes) }
     ensures { result.count ≤ length input.new }
 {
-    let got = read_more(input, count);
+    let got = read_more(reader, input, count);
     let end = count + got;
     let p = answer_lines(&input[0..end], text, scratch, out);
     let at = p.0;
     let n = p.1;
-    let is_written = io::write_all(libc::STDOUT_FILENO, &out[0..n]);
+    let is_written = writer.write_all(&out[0..n]).is_ok();
     shift(input, at, end);
     Waiting {
         count: end - at,
@@ -254,33 +257,48 @@ fn goes_on(got: usize, at: usize, is_good: bool, is_written: bool) -> bool {
 }
 
 // What waits at the end is no line to answer. (A proved loop has to end, so it counts its turns down.)
-fn replay(input: &mut [u8], text: &mut [u8], scratch: &mut [u8], out: &mut [u8])
+fn replay<R: Read, W: Write>(
+    reader: &mut R,
+    writer: &mut W,
+    input: &mut [u8],
+    text: &mut [u8],
+    scratch: &mut [u8],
+    out: &mut [u8],
+) -> io::Result<()>
     requires { (length text.old ≡ text_bytes) × (length scratch.old ≡ text_bytes) }
 {
     let mut count: usize = 0;
     let mut turns = u64::MAX;
     while 0 < turns {
-        let w = replay_some(input, text, scratch, out, count);
+        let w = replay_some(reader, writer, input, text, scratch, out, count);
         if !w.is_open {
-            end_with(w.count);
-            return;
+            return end_with(writer, w.count);
         }
         count = w.count;
         turns -= 1;
     }
+    Ok(())
 }
 
 // The message where bytes are left that are no line to answer.
-fn end_with(count: usize) {
+fn end_with<W: Write>(writer: &mut W, count: usize) -> io::Result<()> {
     if 0 < count {
-        io::write_all(libc::STDOUT_FILENO, b"malformed line\n");
+        writer.write_all(b"malformed line\n")?;
     }
+    Ok(())
 }
 
-fn main() {
+fn main(rt: HostRuntime) -> io::Result<()> {
     let mut input = [0u8; 262144];
     let mut text = [0u8; TEXT_BYTES];
     let mut scratch = [0u8; TEXT_BYTES];
     let mut out = [0u8; 655360];
-    replay(&mut input, &mut text, &mut scratch, &mut out);
+    replay(
+        &mut rt.stdin(),
+        &mut rt.stdout(),
+        &mut input,
+        &mut text,
+        &mut scratch,
+        &mut out,
+    )
 }

@@ -1,5 +1,5 @@
 -- `replay::kind_of` meets its contract.
-use mathlib.Core.Path.{◌∙◌, refl}
+use mathlib.Core.Path.{◌∙◌}
 use Rattle.replay.proofs.KindLaws.{is_word, kind-split, kind-drawing, kind-plane, kind-sheet, kind-table, kind_unknown}
 use Rattle.replay.proofs.kind_of.Goals as goal
 

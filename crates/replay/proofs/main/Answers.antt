@@ -18,6 +18,3 @@ slice_bounds-replay-end-4 c = sym (length-replicate {A = ℕ} 655360 0)
 
 pub replay-requires : goal.replay-requires
 replay-requires c = (length-replicate {A = ℕ} 61440 0, length-replicate {A = ℕ} 61440 0)
-
-pub returns : goal.returns
-returns c = tt

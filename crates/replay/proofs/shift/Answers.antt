@@ -1,5 +1,4 @@
 -- `replay::shift` meets its contract.
-use Prim.Native.Nat.{◌-◌}
 use Rattle.replay.proofs.Shifting.{shifting_start, shifting_more, shifting_end}
 use Rattle.replay.proofs.shift.Goals as goal
 

@@ -1,5 +1,4 @@
 -- `sheet::put_printed` meets its contract.
-use mathlib.Core.Path.{refl}
 use Rattle.print.proofs.WrittenLaws.{written_as, written_within}
 use Rattle.sheet.proofs.PrintedLaws.{printed_long, printed-sheet}
 use native.Mathlib.Omega.{arith}
