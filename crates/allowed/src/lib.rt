@@ -1,5 +1,6 @@
 // The tests on the cells of an upright sheet that tell whether its clauses have allowed values.
 #![tactic(auto)]
+
 ghost use Rattle.std.specs.Prelude.{true, [], ◌≡◌, ◌+◌, ◌≤◌, ◌<◌, length};
 ghost use Rattle.lists.specs.OneOf.{one_of};
 ghost use Rattle.model.specs.Limits.{plane_rows, plane_cells, plane_size};

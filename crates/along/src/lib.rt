@@ -1,5 +1,6 @@
 // Walks along the lines of a drawing, each kind with its own characters.
 #![tactic(auto)]
+
 pub mod sets;
 
 ghost use Rattle.std.specs.Prelude.{◌≡◌, length};

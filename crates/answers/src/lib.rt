@@ -1,5 +1,6 @@
 // What is printed for a text of the value split and for a lent plane, as the judge of the Rust prints it.
 #![tactic(auto)]
+
 ghost use Rattle.std.specs.Prelude.{◌+◌, ◌≤◌, length};
 ghost use Rattle.model.specs.Limits.{text_bytes};
 ghost use Rattle.model.specs.Policies.{policy_number, orientation_number};

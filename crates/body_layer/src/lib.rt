@@ -1,5 +1,6 @@
 // The layer BODY of a canvas, from THIN.
 #![tactic(auto)]
+
 ghost use Rattle.std.specs.Prelude.{◌≡◌, ◌+◌, ◌<◌, ◌≤◌, ◌^◌, length, get_or, set};
 ghost use Rattle.lists.specs.Line.{store_at};
 ghost use Rattle.lists.specs.Picture.{canvas};

@@ -1,5 +1,6 @@
 // The whole reader, from the bytes of a sheet to its record.
 #![tactic(auto)]
+
 ghost use Rattle.std.specs.Prelude.{[], ◌∷◌, ◌≡◌};
 ghost use Rattle.room.specs.Room.{Roomy};
 ghost use Rattle.builder.specs.SheetEnd.{sheet_sizes, sheet_end};

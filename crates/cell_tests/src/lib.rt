@@ -1,5 +1,6 @@
 // The regions of the cells of an upright sheet, and tests on them.
 #![tactic(auto)]
+
 ghost use Rattle.std.specs.Prelude.{◌≡◌, ◌+◌, ◌≤◌, ◌<◌};
 ghost use Rattle.model.specs.Limits.{plane_rows};
 ghost use Rattle.cells.specs.Plane.{plane_in, PlaneFits};

@@ -1,5 +1,6 @@
 // A plane in a slice of numbers: 64 lengths of rows, then 64 places a row.
 #![tactic(auto)]
+
 ghost use Rattle.std.specs.Prelude.{◌≡◌, [], ◌∷◌, ◌++◌, ◌+◌, ◌*◌, ◌≤◌, ◌<◌, length};
 ghost use Rattle.model.specs.Cells.{Small};
 ghost use Rattle.model.specs.Limits.{plane_rows, plane_cells, plane_size};

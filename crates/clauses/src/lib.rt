@@ -1,5 +1,6 @@
 // The clause rules on an upright sheet: every refusal in its order, and where everything stands.
 #![tactic(auto)]
+
 ghost use Rattle.std.specs.Prelude.{◌≡◌, ◌+◌, ◌≤◌, ◌<◌};
 ghost use Rattle.model.specs.Limits.{plane_rows, plane_cells};
 ghost use Rattle.cells.specs.Plane.{plane_in, row_in, PlaneFits};

@@ -1,5 +1,6 @@
 // Code points of a text in UTF-8: checked, and known to stand at a place.
 #![tactic(auto)]
+
 ghost use Rattle.std.specs.Prelude.{◌≡◌, drop};
 ghost use Rattle.utf8.specs.Utf8.{decode, StandsAt, check, checked};
 ghost use Rattle.utf8.specs.declared.Decoded.TheVariants.{Char};

@@ -1,5 +1,6 @@
 // The plane of a drawing.
 #![tactic(auto)]
+
 ghost use Rattle.std.specs.Prelude.{◌≡◌};
 ghost use Rattle.drawn_planes.specs.DrawnTable.{named_plane, drawn_in, DrawnHeld, DrawnRoom};
 

@@ -1,5 +1,6 @@
 // The record of a drawing. The work slices are left as they come: the entry clears them.
 #![tactic(auto)]
+
 ghost use Rattle.std.specs.Prelude.{◌≡◌, ◌*◌, ◌≤◌, length, take};
 ghost use Rattle.model.specs.Limits.{plane_size, text_bytes};
 ghost use Rattle.record.specs.Slots.{slot_limit};

@@ -1,5 +1,6 @@
 // The parts of a list between commas, and the first that stands in emphasis: its marked default.
 #![tactic(auto)]
+
 ghost use Rattle.std.specs.Prelude.{◌&&◌, ◌≡◌, ◌-◌, ◌≤◌, ◌<◌, length, take, drop};
 ghost use Rattle.emphasis.specs.Emphasis.{starts_with, ends_with, strip_start, strip_end, strip, marks, emphasised, marked};
 ghost use Rattle.emphasis.specs.Found.{PartEnd, MarkOf, FoundIn};

@@ -1,5 +1,6 @@
 // Code points written as UTF-8.
 #![tactic(auto)]
+
 ghost use Rattle.std.specs.Prelude.{◌≡◌, ◌+◌, ◌<◌, ◌≤◌, length, set};
 ghost use Rattle.lists.specs.Put.{put};
 ghost use Rattle.utf8.specs.Utf8.{encode};

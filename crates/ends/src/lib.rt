@@ -1,5 +1,6 @@
 // How a call ends: its outcome, its work slices cleared, and its record.
 #![tactic(auto)]
+
 ghost use Rattle.std.specs.Prelude.{◌≡◌};
 ghost use Rattle.lists.specs.Zeros.{zeros};
 

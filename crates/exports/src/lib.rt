@@ -1,5 +1,6 @@
 // The three entries for programs in C or Rust: a slice is a pointer and a count, an outcome is numbers.
 #![tactic(auto)]
+
 ghost use Rattle.std.specs.Prelude.{[], ◌∷◌, ◌≡◌};
 ghost use Rattle.builder.specs.SheetEnd.{sheet_end};
 ghost use Rattle.lent_builder.specs.LentEnd.{lent_end};

@@ -1,5 +1,6 @@
 // The three entries as a static library, under the names of the header: each is the function of `exports` of its name.
 #![tactic(auto)]
+
 ghost use Rattle.std.specs.Prelude.{[], ◌∷◌, ◌≡◌};
 ghost use Rattle.builder.specs.SheetEnd.{sheet_end};
 ghost use Rattle.lent_builder.specs.LentEnd.{lent_end};

@@ -1,5 +1,6 @@
 // The layer GRID from BODY: the lines of the body are carried across it.
 #![tactic(auto)]
+
 ghost use Rattle.std.specs.Prelude.{◌++◌, ◌≡◌, ℕ, ◌+◌, ◌*◌, ◌<◌, ◌≤◌, ◌^◌, eqb, length, get_or, set, take, drop};
 ghost use Rattle.lists.specs.Line.{placed};
 ghost use Rattle.lists.specs.OneOf.{any_at};

@@ -1,5 +1,6 @@
 // The hit policy that a text is.
 #![tactic(auto)]
+
 ghost use Rattle.std.specs.Prelude.{◌≡◌, [], ◌∷◌};
 ghost use Rattle.hit_policies.specs.Letters.{policy_of, policy_found};
 

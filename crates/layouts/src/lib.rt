@@ -1,5 +1,6 @@
 // What the output clauses of an upright sheet have: every refusal in its order.
 #![tactic(auto)]
+
 ghost use Rattle.std.specs.Prelude.{◌≡◌, ◌+◌, ◌≤◌};
 ghost use Rattle.cells.specs.Plane.{plane_in, PlaneFits};
 ghost use Rattle.layouts.specs.Layouts.{one_layout, named_layout, labelled_layout, many_layout, layout_of};

@@ -1,5 +1,6 @@
 // A lent plane: its check (26), and its cells and texts in the slices that the reader works with.
 #![tactic(auto)]
+
 ghost use Rattle.std.specs.Prelude.{◌≡◌, ◌+◌, ◌*◌, ◌^◌, ◌≤◌, ◌<◌, leb, length, get_or, take, drop};
 ghost use Rattle.lists.specs.Run.{build};
 ghost use Rattle.model.specs.Cells.{cell_of_kind};

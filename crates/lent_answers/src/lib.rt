@@ -1,5 +1,6 @@
 // What is printed for the lists of a lent plane in a text: its upright sheet, or its record.
 #![tactic(auto)]
+
 ghost use Rattle.std.specs.Prelude.{◌+◌, ◌≤◌, length};
 ghost use Rattle.print.specs.Decimal.{Written};
 ghost use Rattle.lent_lists.specs.LentText.{lent_at, EndsFit};

@@ -1,5 +1,6 @@
 // The table from a lent plane: its record.
 #![tactic(auto)]
+
 ghost use Rattle.std.specs.Prelude.{[], ◌∷◌, ◌≡◌};
 ghost use Rattle.room.specs.Room.{Roomy};
 ghost use Rattle.lent_builder.specs.LentEnd.{lent_sizes, lent_end};

@@ -1,5 +1,6 @@
 // The lists of a lent plane in a text: where they end, and their bytes as wider numbers.
 #![tactic(auto)]
+
 ghost use Rattle.std.specs.Prelude.{◌≡◌, ◌+◌, ◌-◌, ◌≤◌, length, take, drop};
 ghost use Rattle.lent_lists.specs.LentText.{counted, cut_in, EndWithin, lent_in, list_at, lists_in, ListsWithin};
 

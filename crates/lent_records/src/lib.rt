@@ -1,5 +1,6 @@
 // The record of a lent plane. The work slices are left as they come: the entry clears them.
 #![tactic(auto)]
+
 ghost use Rattle.std.specs.Prelude.{◌≡◌, length};
 ghost use Rattle.recognizer.specs.Told.{table_read};
 ghost use Rattle.tables.specs.NamedTable.{named_table, AnswerHeld};

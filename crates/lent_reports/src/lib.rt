@@ -1,5 +1,6 @@
 // What is printed for a lent plane.
 #![tactic(auto)]
+
 ghost use Rattle.std.specs.Prelude.{◌+◌, ◌≤◌, length};
 ghost use Rattle.policies.specs.LentPolicy.{lent_policy};
 ghost use Rattle.print.specs.Decimal.{Written};

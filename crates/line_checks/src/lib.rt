@@ -1,5 +1,6 @@
 // The end of a line, sought over plain bytes, and the check of a text line by line.
 #![tactic(auto)]
+
 ghost use Rattle.std.specs.Prelude.{true, ◌≡◌, ◌+◌, ◌≤◌, length, drop};
 ghost use Rattle.utf8.specs.Utf8.{check};
 ghost use Rattle.white_space.specs.Lines.{ValidTo};

@@ -1,5 +1,6 @@
 // A line of input: the words of a line, and the text that stands behind a line's kind.
 #![tactic(auto)]
+
 ghost use Rattle.std.specs.Prelude.{◌≡◌, ◌≤◌, length, drop};
 ghost use Rattle.numerals.specs.RuleNumbers.{number_of};
 ghost use Rattle.lines.specs.Texts.{FirstAt, flagged, at_most, bytes_in, bytes_by, text_of, text_in, TextWithin};

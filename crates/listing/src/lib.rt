@@ -1,5 +1,6 @@
 // A record's lines, from its bytes, into a slice.
 #![tactic(auto)]
+
 ghost use Rattle.std.specs.Prelude.{◌≡◌, ◌+◌, ◌*◌, ◌≤◌, ◌<◌, length, take, drop};
 ghost use Rattle.print.specs.Decimal.{Written};
 ghost use Rattle.print.specs.Lines.{count_line};

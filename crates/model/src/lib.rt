@@ -1,5 +1,6 @@
 // The words of a decision table: points, rects, hit policies, placements, cells, and why a sheet is refused.
 #![tactic(auto)]
+
 ghost use Rattle.std.specs.Prelude.{◌≡◌, ◌+◌, ◌-◌, ◌<◌, ◌^◌};
 ghost use Rattle.model.specs.Geometry.{contains_of};
 ghost use Rattle.model.specs.Policies.{policy_number, orientation_number};

@@ -1,5 +1,6 @@
 // An outcome and a value split as numbers, for programs in C or Rust.
 #![tactic(auto)]
+
 ghost use Rattle.std.specs.Prelude.{◌≡◌};
 ghost use Rattle.numbers.specs.Answers.{refusal_answer, answer_of, split_answer};
 

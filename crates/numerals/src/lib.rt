@@ -1,5 +1,6 @@
 // The rule number that a text is.
 #![tactic(auto)]
+
 ghost use Rattle.std.specs.Prelude.{◌≡◌, drop};
 ghost use Rattle.numerals.specs.RuleNumbers.{number_of, number_found, unsigned};
 

@@ -1,5 +1,6 @@
 // What is printed for an outcome: the record's lines, or the refusal.
 #![tactic(auto)]
+
 ghost use Rattle.std.specs.Prelude.{◌≡◌, ◌+◌, ◌≤◌, length};
 ghost use Rattle.print.specs.Decimal.{Written};
 ghost use Rattle.outcome_lines.specs.Outcomes.{outcome_lines, OutcomeSound};

@@ -1,5 +1,6 @@
 // The outline of a table on the TEXT layer: whether it has a name, its crossings and its body.
 #![tactic(auto)]
+
 ghost use Rattle.std.specs.Prelude.{◌≡◌, ◌*◌, ◌≤◌, ◌<◌, length};
 ghost use Rattle.lists.specs.Picture.{canvas};
 ghost use Rattle.walks.specs.Frame.{Place};

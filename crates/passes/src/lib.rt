@@ -1,5 +1,6 @@
 // Cells of an upright sheet that are all regions: every refusal in its order.
 #![tactic(auto)]
+
 ghost use Rattle.std.specs.Prelude.{◌≡◌, ◌+◌, ◌≤◌};
 ghost use Rattle.cells.specs.Plane.{plane_in, PlaneFits};
 ghost use Rattle.passes.specs.Passes.{fine_row, fine_rows};

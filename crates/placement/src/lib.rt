@@ -1,5 +1,6 @@
 // Where the hit policy stands in a plane, and which way its sheet is laid out.
 #![tactic(auto)]
+
 ghost use Rattle.std.proofs.Math.Option.{some};
 ghost use Rattle.std.specs.Prelude.{◌≡◌, ◌<◌};
 ghost use Rattle.hit_policies.specs.Letters.{policy_found};

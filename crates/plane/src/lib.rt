@@ -1,5 +1,6 @@
 // The upright sheet of a plane, or of a lent one, with its hit policy and its rule count.
 #![tactic(auto)]
+
 ghost use Rattle.std.specs.Prelude.{◌≡◌, ◌≤◌, length};
 ghost use Rattle.model.specs.Limits.{plane_size};
 ghost use Rattle.cells.specs.Held.{Held};

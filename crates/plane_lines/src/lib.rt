@@ -1,5 +1,6 @@
 // Planes and the upright sheet as the judge of the Rust prints them, into a slice of bytes.
 #![tactic(auto)]
+
 ghost use Rattle.std.specs.Prelude.{◌∷◌, ◌+◌, ◌≤◌, ◌<◌, length};
 ghost use Rattle.model.specs.Cells.{cell_number};
 ghost use Rattle.model.specs.Limits.{plane_rows, plane_cells, plane_size};

@@ -1,5 +1,6 @@
 // The lines that the judge of the Rust prints, into a slice of bytes: numbers, words, texts, counts, refusals.
 #![tactic(auto)]
+
 ghost use Rattle.std.specs.Prelude.{◌∷◌, ◌+◌, ◌*◌, ◌≤◌, length};
 ghost use Rattle.model.specs.Refusals.{numbers};
 ghost use Rattle.print.specs.Decimal.{decimal, listed, Written};

@@ -1,5 +1,6 @@
 // The policy that a plane states, as the numbers of a table and the slots of its texts.
 #![tactic(auto)]
+
 ghost use Rattle.std.specs.Prelude.{◌≡◌, ℕ, ◌*◌, ◌≤◌, ◌<◌, length, get_or};
 ghost use Rattle.cells.specs.Plane.{plane_in};
 ghost use Rattle.cells.specs.Spans.{text_in};

@@ -1,5 +1,6 @@
 // The table record, written to a slice: its header and its slots.
 #![tactic(auto)]
+
 ghost use Rattle.std.specs.Prelude.{[], ◌∷◌, ◌++◌, ◌≡◌, ◌+◌, ◌*◌, ◌<◌, ◌≤◌, ◌^◌, length};
 ghost use Rattle.lists.specs.Put.{put};
 ghost use Rattle.record.specs.Record.{word, words, slot_offset, text_offset};

@@ -1,5 +1,6 @@
 // The texts of a table record, written to its slice with their slots: packed in slot order.
 #![tactic(auto)]
+
 ghost use Rattle.std.specs.Prelude.{[], ◌∷◌, ◌≡◌, ◌+◌, ◌-◌, ◌*◌, ◌<◌, ◌≤◌, ◌^◌, length, take, drop};
 ghost use Rattle.std.proofs.Math.Option.{some};
 ghost use Rattle.record.specs.Record.{bytes_of, packed, slot_offset};

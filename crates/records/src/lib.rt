@@ -1,5 +1,6 @@
 // The record of a table that is read, or why there is none.
 #![tactic(auto)]
+
 ghost use Rattle.std.specs.Prelude.{◌≡◌, ◌*◌, ◌≤◌, length};
 ghost use Rattle.record.specs.Slots.{slot_limit};
 ghost use Rattle.recognizer.specs.declared.Recognized.TheVariants.{Stands};

@@ -1,5 +1,6 @@
 // Rects in a slice of numbers, four each: one is read or stored.
 #![tactic(auto)]
+
 ghost use Rattle.std.specs.Prelude.{◌≡◌, [], ◌∷◌, ◌++◌, ◌+◌, ◌*◌, ◌≤◌, length};
 ghost use Rattle.rects.specs.Rects.{rect_at, rects_of, Small};
 

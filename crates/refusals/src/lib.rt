@@ -1,5 +1,6 @@
 // A refusal as document 01 numbers it.
 #![tactic(auto)]
+
 ghost use Rattle.std.specs.Prelude.{◌≡◌};
 ghost use Rattle.model.specs.Refusals.{numbers};
 

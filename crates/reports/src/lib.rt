@@ -1,5 +1,6 @@
 // What is printed for a sheet.
 #![tactic(auto)]
+
 ghost use Rattle.std.specs.Prelude.{◌+◌, ◌≤◌, length};
 ghost use Rattle.policies.specs.DrawnPolicy.{walked_policy};
 ghost use Rattle.print.specs.Decimal.{Written};

@@ -1,5 +1,6 @@
 // One text put for another everywhere in a text: the result measured and written.
 #![tactic(auto)]
+
 ghost use Rattle.std.specs.Prelude.{◌≡◌, ◌+◌, ◌≤◌, ◌<◌, length};
 ghost use Rattle.lists.specs.Put.{put};
 ghost use Rattle.search.specs.Periods.{Periods};

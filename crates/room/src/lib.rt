@@ -1,5 +1,6 @@
 // Whether the work slices of a call have their lengths.
 #![tactic(auto)]
+
 ghost use Rattle.std.specs.Prelude.{◌≡◌, length};
 ghost use Rattle.room.specs.Room.{room_from, room_in};
 

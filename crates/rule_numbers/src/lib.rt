@@ -1,5 +1,6 @@
 // The rule numbers of a plane: down column 0, or along the last row.
 #![tactic(auto)]
+
 ghost use Rattle.std.specs.Prelude.{◌≡◌, ◌≤◌, ◌<◌, length, drop};
 ghost use Rattle.model.specs.Limits.{plane_rows, plane_size};
 ghost use Rattle.numerals.specs.RuleNumbers.{number_found};

@@ -1,5 +1,6 @@
 // From the bytes of a sheet to the layers TEXT and BODY.
 #![tactic(auto)]
+
 ghost use Rattle.std.specs.Prelude.{◌≡◌, map, ◌+◌, ◌*◌, ◌≤◌, length, replicate};
 ghost use Rattle.lists.specs.Put.{put};
 ghost use Rattle.model.specs.Limits.{canvas_size};

@@ -1,5 +1,6 @@
 // The search for a text in another by the periods of its fronts, after Galil and Seiferas 1983.
 #![tactic(auto)]
+
 ghost use Rattle.std.specs.Prelude.{◌&&◌, List, ◌≡◌, ℕ, ◌+◌, ◌*◌, ◌≤◌, ◌<◌, leb, ltb, length, set};
 ghost use Rattle.search.specs.Periods.{Knows, Safe, Periods, FirstPlace};
 

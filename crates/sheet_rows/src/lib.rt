@@ -1,5 +1,6 @@
 // Where the rows of a sheet stand in its bytes, and how many and how long they are.
 #![tactic(auto)]
+
 ghost use Rattle.std.specs.Prelude.{◌≡◌, ◌+◌, ◌*◌, ◌≤◌, ◌<◌, max, length, set};
 ghost use Rattle.model.specs.Limits.{canvas_rows};
 ghost use Rattle.white_space.specs.Lines.{ValidTo};

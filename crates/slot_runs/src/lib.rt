@@ -1,5 +1,6 @@
 // Texts written as slots, one by one and along a row: three numbers each.
 #![tactic(auto)]
+
 ghost use Rattle.std.specs.Prelude.{List, [], ◌∷◌, ◌≡◌, ℕ, ◌+◌, ◌*◌, ◌≤◌, ◌<◌, length};
 ghost use Rattle.std.proofs.Math.Option.{none, some};
 ghost use Rattle.model.specs.Limits.{text_bytes};

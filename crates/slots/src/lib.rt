@@ -1,5 +1,6 @@
 // The texts of an upright sheet as slots of a work slice, three numbers each, in record order.
 #![tactic(auto)]
+
 ghost use Rattle.std.specs.Prelude.{[], ◌∷◌, ◌≡◌, ◌+◌, ◌-◌, ◌*◌, ◌≤◌, ◌<◌, length};
 ghost use Rattle.lists.specs.Choose.{choose};
 ghost use Rattle.model.specs.Limits.{plane_cells};

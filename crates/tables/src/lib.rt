@@ -1,5 +1,6 @@
 // The table of a plane, with its name: its numbers, and its texts as slots of a work slice.
 #![tactic(auto)]
+
 ghost use Rattle.std.specs.Prelude.{true, ◌≡◌, ◌*◌, ◌≤◌, length};
 ghost use Rattle.cells.specs.Plane.{plane_in};
 ghost use Rattle.cells.specs.Spans.{text_in};

@@ -1,5 +1,6 @@
 // The lines of a text in UTF-8, read by their bytes: a line of a sheet with its length, and the head of any other.
 #![tactic(auto)]
+
 ghost use Rattle.std.specs.Prelude.{true, ◌≡◌, ◌+◌, ◌<◌, ◌≤◌, length, drop};
 ghost use Rattle.utf8.specs.Utf8.{decode, codes, SameCheck};
 ghost use Rattle.utf8.specs.Passed.{code_of};

@@ -1,5 +1,6 @@
 // The texts of regions: the rows between a frame's sides, trimmed, joined with a blank, as UTF-8.
 #![tactic(auto)]
+
 ghost use Rattle.std.specs.Prelude.{◌≡◌, ◌+◌, ◌-◌, ◌*◌, ◌≤◌, ltb, length, take, drop};
 ghost use Rattle.lists.specs.Picture.{canvas};
 ghost use Rattle.model.specs.Limits.{text_bytes};

@@ -1,5 +1,6 @@
 // The layer THIN of a canvas, from TEXT.
 #![tactic(auto)]
+
 ghost use Rattle.std.specs.Prelude.{◌≡◌, ◌<◌, length, get_or, set};
 ghost use Rattle.lists.specs.Picture.{canvas};
 ghost use Rattle.thin_layer.specs.Thin.{thin_of, thin_layers, thin_picture};

@@ -1,5 +1,6 @@
 // The upright sheet of a plane, in a second slice.
 #![tactic(auto)]
+
 ghost use Rattle.std.specs.Prelude.{map, ◌≡◌, ◌≤◌, ◌<◌, ◌-◌, get_or, drop};
 ghost use Rattle.model.specs.Limits.{plane_cells};
 ghost use Rattle.cells.specs.Plane.{cell_at, cells_in, row_in, plane_in, PlaneFits, KeptBefore};

@@ -1,5 +1,6 @@
 // The value split: the allowed values and the default of an output clause.
 #![tactic(auto)]
+
 ghost use Rattle.std.specs.Prelude.{◌≡◌, length, take};
 ghost use Rattle.emphasis.specs.Emphasis.{choice_of};
 ghost use Rattle.utils.specs.Split.{split_by, split_of, scratch_by, scratch_of, answered, Places, allowed_in};

@@ -1,5 +1,6 @@
 // The values of a text: its allowed values and its default, measured and written.
 #![tactic(auto)]
+
 ghost use Rattle.std.specs.Prelude.{◌≡◌, ◌+◌, ◌≤◌, length};
 ghost use Rattle.lists.specs.Put.{put};
 ghost use Rattle.values.specs.Values.{values_of, MeasuredOf};

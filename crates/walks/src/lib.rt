@@ -1,5 +1,6 @@
 // Walks along the rows and columns of a layer.
 #![tactic(auto)]
+
 ghost use Rattle.std.specs.Prelude.{◌≡◌, List, ℕ, ◌<◌, length};
 ghost use Rattle.lists.specs.Picture.{canvas};
 ghost use Rattle.walks.specs.Walk.{walk_of, ahead, go_of, steps_in};

@@ -1,5 +1,6 @@
 // Unicode: White_Space and trimming.
 #![tactic(auto)]
+
 ghost use Rattle.std.specs.Prelude.{◌≡◌, ◌+◌, ◌-◌, ◌<◌, ◌≤◌, length, drop, take};
 ghost use Rattle.white_space.specs.White.{white};
 ghost use Rattle.white_space.specs.Trim.{trim_start, trim_end, trim, trim_start_utf8, trim_utf8, PartIn};

@@ -1,5 +1,6 @@
 // A table's record, written from slots. A slot names a text: none, a part of the bytes, or the allowed values of a part.
 #![tactic(auto)]
+
 ghost use Rattle.std.specs.Prelude.{[], ◌∷◌, ◌≡◌, ◌+◌, ◌*◌, ◌≤◌, ◌<◌, length};
 ghost use Rattle.record.specs.Record.{bytes_of, text_offset, total};
 ghost use Rattle.record.specs.Slots.{kind_at, offset_at, length_at, part_at};

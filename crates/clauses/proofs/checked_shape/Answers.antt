@@ -9,15 +9,24 @@ pass_sizes-requires c =
 
 pub returns-in-Clear : goal.returns-in-Clear
 returns-in-Clear c =
-    let q = c.in-Has.is in record { shape = checked_has _ _ _ _ _ c.spot_of-main.ensures.spot c.spot_of-notes.ensures.spot (rw q at c.shape_of.ensures.shape)
-          (rw c.in-Clear.is at c.pass_sizes.ensures.sizes); fits = c.pass_sizes.ensures.rules c.in-Clear.is }
+    let q = c.in-Has.is in record {
+      shape = checked_has _ _ _ _ _ c.spot_of-main.ensures.spot c.spot_of-notes.ensures.spot (rw q at c.shape_of.ensures.shape)
+          (rw c.in-Clear.is at c.pass_sizes.ensures.sizes);
+      fits = c.pass_sizes.ensures.rules c.in-Clear.is;
+    }
 
 pub returns-in-Stopped : goal.returns-in-Stopped
 returns-in-Stopped c =
-    let q = c.in-Has.is in record { shape = checked-sizes _ _ _ _ _ c.spot_of-main.ensures.spot c.spot_of-notes.ensures.spot (rw q at c.shape_of.ensures.shape)
-          (rw c.in-Stopped.is at c.pass_sizes.ensures.sizes); fits = tt }
+    let q = c.in-Has.is in record {
+      shape = checked-sizes _ _ _ _ _ c.spot_of-main.ensures.spot c.spot_of-notes.ensures.spot (rw q at c.shape_of.ensures.shape)
+          (rw c.in-Stopped.is at c.pass_sizes.ensures.sizes);
+      fits = tt;
+    }
 
 pub returns-in-NotShaped : goal.returns-in-NotShaped
 returns-in-NotShaped c =
-    record { shape = checked_shape_lem _ _ _ _ _ c.spot_of-main.ensures.spot c.spot_of-notes.ensures.spot
-          (rw c.in-NotShaped.is at c.shape_of.ensures.shape); fits = tt }
+    record {
+      shape = checked_shape_lem _ _ _ _ _ c.spot_of-main.ensures.spot c.spot_of-notes.ensures.spot
+          (rw c.in-NotShaped.is at c.shape_of.ensures.shape);
+      fits = tt;
+    }

@@ -18,23 +18,35 @@ returns-in-Stopped c =
 
 pub returns-in-NotLaidOut : goal.returns-in-NotLaidOut
 returns-in-NotLaidOut c =
-    record { shape = at_layout _ _ _ _ _ (rw c.in-Is.is at c.allowed.ensures) (rw c.in-Clear.is at c.pass_inputs.ensures)
-          (rw c.in-NotLaidOut.is at c.lay_out.ensures); fits = tt }
+    record {
+      shape = at_layout _ _ _ _ _ (rw c.in-Is.is at c.allowed.ensures) (rw c.in-Clear.is at c.pass_inputs.ensures)
+          (rw c.in-NotLaidOut.is at c.lay_out.ensures);
+      fits = tt;
+    }
 
 pub returns-in-Stopped-pass_rows : goal.returns-in-Stopped-pass_rows
 returns-in-Stopped-pass_rows c =
-    record { shape = at-outputs _ _ _ _ _ (rw c.in-Is.is at c.allowed.ensures) (rw c.in-Clear.is at c.pass_inputs.ensures)
-          (rw c.in-As.is at c.lay_out.ensures) (rw c.in-Stopped-pass_rows.is at c.pass_rows.ensures); fits = tt }
+    record {
+      shape = at-outputs _ _ _ _ _ (rw c.in-Is.is at c.allowed.ensures) (rw c.in-Clear.is at c.pass_inputs.ensures)
+          (rw c.in-As.is at c.lay_out.ensures) (rw c.in-Stopped-pass_rows.is at c.pass_rows.ensures);
+      fits = tt;
+    }
 
 pub returns-in-Are : goal.returns-in-Are
 returns-in-Are c =
     let e = c.in-Are.is in
-    let w = rw e at c.notes_at.ensures.fit in record { shape = at_shape _ _ _ _ _ (rw c.in-Is.is at c.allowed.ensures) (rw c.in-Clear.is at c.pass_inputs.ensures)
+    let w = rw e at c.notes_at.ensures.fit in record {
+      shape = at_shape _ _ _ _ _ (rw c.in-Is.is at c.allowed.ensures) (rw c.in-Clear.is at c.pass_inputs.ensures)
           (rw c.in-As.is at c.lay_out.ensures) (rw c.in-Clear-pass_rows.is at c.pass_rows.ensures)
-          (rw e at c.notes_at.ensures.notes); fits = record { columns = w.0; behind = w.1; height = omega (arith, c.requires.2); notes = w.2 } }
+          (rw e at c.notes_at.ensures.notes);
+      fits = record { columns = w.0; behind = w.1; height = omega (arith, c.requires.2); notes = w.2 };
+    }
 
 pub returns-in-NotNoted : goal.returns-in-NotNoted
 returns-in-NotNoted c =
-    record { shape = at-notes _ _ _ _ _ (rw c.in-Is.is at c.allowed.ensures) (rw c.in-Clear.is at c.pass_inputs.ensures)
+    record {
+      shape = at-notes _ _ _ _ _ (rw c.in-Is.is at c.allowed.ensures) (rw c.in-Clear.is at c.pass_inputs.ensures)
           (rw c.in-As.is at c.lay_out.ensures) (rw c.in-Clear-pass_rows.is at c.pass_rows.ensures)
-          (rw c.in-NotNoted.is at c.notes_at.ensures.notes); fits = tt }
+          (rw c.in-NotNoted.is at c.notes_at.ensures.notes);
+      fits = tt;
+    }

@@ -12,10 +12,16 @@ returns-in-Stopped c =
 
 pub returns-in-Stopped-pass_rows : goal.returns-in-Stopped-pass_rows
 returns-in-Stopped-pass_rows c =
-    record { notes = notes-rows _ _ _ _ c.width-w.ensures.0 c.if-w-x.false (rw c.in-Clear.is at c.pass_row.ensures)
-          (rw c.in-Stopped-pass_rows.is at c.pass_rows.ensures); fit = tt }
+    record {
+      notes = notes-rows _ _ _ _ c.width-w.ensures.0 c.if-w-x.false (rw c.in-Clear.is at c.pass_row.ensures)
+          (rw c.in-Stopped-pass_rows.is at c.pass_rows.ensures);
+      fit = tt;
+    }
 
 pub returns : goal.returns
 returns c =
-    record { notes = notes_are _ _ _ _ c.width-w.ensures.0 c.if-w-x.false (rw c.in-Clear.is at c.pass_row.ensures)
-          (rw c.in-Clear-pass_rows.is at c.pass_rows.ensures); fit = (omega (arith, c.width-w.ensures.1), omega (arith, c.width-w.ensures.1), omega arith) }
+    record {
+      notes = notes_are _ _ _ _ c.width-w.ensures.0 c.if-w-x.false (rw c.in-Clear.is at c.pass_row.ensures)
+          (rw c.in-Clear-pass_rows.is at c.pass_rows.ensures);
+      fit = (omega (arith, c.width-w.ensures.1), omega (arith, c.width-w.ensures.1), omega arith);
+    }

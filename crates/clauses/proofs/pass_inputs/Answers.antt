@@ -1,6 +1,5 @@
 -- `clauses::pass_inputs` meets its contract.
 use mathlib.Core.Path.{◌∙◌}
-
 use Rattle.layouts.proofs.LayoutLaws.{read_if, read_not}
 use Rattle.clauses.proofs.ShapeLaws.{inputs_stop, inputs-values, inputs-rows}
 use Rattle.clauses.proofs.pass_inputs.Goals as goal

@@ -13,8 +13,11 @@ outputs_end-e-requires c = (c.requires.0, c.requires.2)
 
 pub returns-then-e-n : goal.returns-then-e-n
 returns-then-e-n c =
-    let a = c.args in record { shape = shape_outside _ _ _ _ _ c.outputs_end-e.ensures.end c.if-e-n.true
-          ∙ ap (λ p. shape_of (plane_in a.plane.now a.rows) (place_in p) (place_in a.notes)) (sym c.in-At.is); fits = tt }
+    let a = c.args in record {
+      shape = shape_outside _ _ _ _ _ c.outputs_end-e.ensures.end c.if-e-n.true
+          ∙ ap (λ p. shape_of (plane_in a.plane.now a.rows) (place_in p) (place_in a.notes)) (sym c.in-At.is);
+      fits = tt;
+    }
 
 pub clauses_at-requires : goal.clauses_at-requires
 clauses_at-requires c =
@@ -24,8 +27,11 @@ clauses_at-requires c =
 
 pub returns-else-e-n : goal.returns-else-e-n
 returns-else-e-n c =
-    let a = c.args in record { shape = c.clauses_at.ensures.shape ∙ shape_within _ _ _ _ _ c.outputs_end-e.ensures.end c.if-e-n.false
-          ∙ ap (λ p. shape_of (plane_in a.plane.now a.rows) (place_in p) (place_in a.notes)) (sym c.in-At.is); fits = c.clauses_at.ensures.fits }
+    let a = c.args in record {
+      shape = c.clauses_at.ensures.shape ∙ shape_within _ _ _ _ _ c.outputs_end-e.ensures.end c.if-e-n.false
+          ∙ ap (λ p. shape_of (plane_in a.plane.now a.rows) (place_in p) (place_in a.notes)) (sym c.in-At.is);
+      fits = c.clauses_at.ensures.fits;
+    }
 
 pub returns-in-Nowhere : goal.returns-in-Nowhere
 returns-in-Nowhere c =

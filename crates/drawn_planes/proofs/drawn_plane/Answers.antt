@@ -29,7 +29,7 @@ read_plane-requires c =
     let p = c.requires in
     let l = c.draw_sheet.auto in
     let r : Room c.draw_sheet.new.text c.draw_sheet.new.thins c.draw_sheet.new.bodies c.draw_sheet.new.grid =
-    record { text = omega (arith, p.layers.text, l.1.0); thin = omega (arith, p.layers.thin, l.1.1.0); body = omega (arith, p.layers.body, l.1.1.1.0); grid = omega (arith, p.layers.grid, l.1.1.1.1.0) } in
+    record { text = omega (arith, p.layers.text, l.text); thin = omega (arith, p.layers.thin, l.thins); body = omega (arith, p.layers.body, l.bodies); grid = omega (arith, p.layers.grid, l.grid) } in
     plane-room c.args.s.now c.in-Drawn.o (told (goal.at.read_plane-requires c).In-Drawn) (shown (goal.at.read_plane-requires c).In-Drawn) r p.all_texts p.two_each
 
 pub shape_of-text-in-Rows : goal.shape_of-text-in-Rows
