@@ -17,13 +17,13 @@ pub table_of-t-requires : goal.table_of-t-requires
 table_of-t-requires c =
     let p = c.requires in
     let l = c.drawn_plane-d.auto in
-    (c.drawn_plane-d.ensures.held, omega (arith, p.all_texts, l.1.1.1.1.1.0), omega (arith, p.layers.body, l.1.1.1.0), omega (arith, p.layers.thin, l.1.1.0))
+    (c.drawn_plane-d.ensures.held, omega (arith, p.all_texts, l.bytes), omega (arith, p.layers.body, l.bodies), omega (arith, p.layers.thin, l.thins))
 
 pub write_drawn-requires : goal.write_drawn-requires
 write_drawn-requires c =
     let p = c.requires in
     let l = c.drawn_plane-d.auto in
-    (c.table_of-t.ensures.held, omega (arith, p.all_texts, l.1.1.1.1.1.0), omega (arith, p.layers.thin, l.1.1.0, c.table_of-t.auto.slots))
+    (c.table_of-t.ensures.held, omega (arith, p.all_texts, l.bytes), omega (arith, p.layers.thin, l.thins, c.table_of-t.auto.slots))
 
 pub shape_of-text : goal.shape_of-text
 shape_of-text c = c.drawn_plane-d.auto.text
@@ -51,4 +51,4 @@ returns c =
     let w = c.write_drawn.ensures in
     let s = c.args in
     let e = c.table_of-t.ensures.table ∙ ap table_read (ap named_policy c.drawn_plane-d.ensures.plane ∙ sym (first-region s.s.now)) in
-    (w.outcome ∙ ap (λ (m : Reading Table). outcome_of m (length s.out.now)) e, w.out ∙ ap (λ (m : Reading Table). record_of m s.out.now) e)
+    record { outcome = w.outcome ∙ ap (λ (m : Reading Table). outcome_of m (length s.out.now)) e; out = w.out ∙ ap (λ (m : Reading Table). record_of m s.out.now) e }

@@ -21,9 +21,9 @@ pub returns-in-Rows : goal.returns-in-Rows
 returns-in-Rows c =
     let p = rw c.texts_in.ensures at c.plane_table.ensures in
     let s = c.args in
-    (p.0 ∙ ap (λ (x : DrawnRows). table_read (named_policy (drawn_in x s.plane.now s.bytes.now s.spans.now))) (sym c.in-Rows.is), p.1)
+    record { table = p.table ∙ ap (λ (x : DrawnRows). table_read (named_policy (drawn_in x s.plane.now s.bytes.now s.spans.now))) (sym c.in-Rows.is); held = p.held }
 
 pub returns-in-NotDrawn : goal.returns-in-NotDrawn
 returns-in-NotDrawn c =
     let s = c.args in
-    (ap (λ (x : DrawnRows). table_read (named_policy (drawn_in x s.plane.now s.bytes.now s.spans.now))) (sym c.in-NotDrawn.is), tt)
+    record { table = ap (λ (x : DrawnRows). table_read (named_policy (drawn_in x s.plane.now s.bytes.now s.spans.now))) (sym c.in-NotDrawn.is); held = tt }

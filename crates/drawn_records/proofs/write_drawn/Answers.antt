@@ -5,4 +5,4 @@ pub write_recognized-requires : goal.write_recognized-requires
 write_recognized-requires c = let p = c.requires in rw c.texts_in.ensures (p.0, p.2)
 
 pub returns : goal.returns
-returns c = let w = rw c.texts_in.ensures at c.write_recognized.ensures in record { outcome = w.0; out = w.1 }
+returns c = let w = rw c.texts_in.ensures at c.write_recognized.ensures in record { outcome = w.outcome; out = w.out }

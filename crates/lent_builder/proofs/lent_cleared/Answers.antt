@@ -12,7 +12,7 @@ use Rattle.lent_builder.proofs.lent_cleared.Goals.{After-slice_known-14-1, Start
 gone : (c : After-slice_known-14-1) → Cleared (c.clear_four.new.a ∷ c.clear_four.new.b ∷ c.clear_four.new.c ∷ c.clear_four.new.d ∷ []) (c.args.plane.now ∷ c.args.spans.now ∷ c.args.upright.now ∷ c.args.slots.now ∷ [])
 gone c =
     let s = c.args in
-    one (c.clear_four.ensures.0 ∙ zeros-same c.lent_record-r.last.1.1.1.1.1.1.0 s.plane.now c.lent_record-r.auto.plane) (one (c.clear_four.ensures.1 ∙ zeros-same c.lent_record-r.last.1.1.1.1.1.1.1.0 s.spans.now c.lent_record-r.auto.spans) (one (c.clear_four.ensures.2 ∙ zeros-same c.lent_record-r.last.1.1.1.1.1.1.1.1.0 s.upright.now c.lent_record-r.auto.upright) (one (c.clear_four.ensures.3 ∙ zeros-same c.lent_record-r.last.1.1.1.1.1.1.1.1.1.0 s.slots.now c.lent_record-r.auto.slots) (none))))
+    one (c.clear_four.ensures.0 ∙ zeros-same c.lent_record-r.new.plane s.plane.now c.lent_record-r.auto.plane) (one (c.clear_four.ensures.1 ∙ zeros-same c.lent_record-r.new.spans s.spans.now c.lent_record-r.auto.spans) (one (c.clear_four.ensures.2 ∙ zeros-same c.lent_record-r.new.upright s.upright.now c.lent_record-r.auto.upright) (one (c.clear_four.ensures.3 ∙ zeros-same c.lent_record-r.new.slots s.slots.now c.lent_record-r.auto.slots) (none))))
 
 abbrev lent : Start → LentPlane
 lent s =
@@ -26,4 +26,5 @@ lent_record-r-requires c =
 
 pub returns : goal.returns
 returns c =
-    end_cleared lent_sizes (lent_policy (lent (goal.at.returns c).Start)) (c.args.plane.now ∷ c.args.spans.now ∷ c.args.upright.now ∷ c.args.slots.now ∷ []) (c.clear_four.new.a ∷ c.clear_four.new.b ∷ c.clear_four.new.c ∷ c.clear_four.new.d ∷ []) c.args.out.now c.lent_record-r.last.1.1.1.1.1.1.1.1.1.1.0 c.lent_record-r.result c.requires c.lent_record-r.ensures.outcome c.lent_record-r.ensures.out (cleared_all (gone c))
+    let e = end_cleared lent_sizes (lent_policy (lent (goal.at.returns c).Start)) (c.args.plane.now ∷ c.args.spans.now ∷ c.args.upright.now ∷ c.args.slots.now ∷ []) (c.clear_four.new.a ∷ c.clear_four.new.b ∷ c.clear_four.new.c ∷ c.clear_four.new.d ∷ []) c.args.out.now c.lent_record-r.new.out c.lent_record-r.result c.requires c.lent_record-r.ensures.outcome c.lent_record-r.ensures.out (cleared_all (gone c)) in
+    record { end = e }

@@ -45,4 +45,5 @@ returns-in-Enough c =
 
 pub returns-in-Short : goal.returns-in-Short
 returns-in-Short c =
-    end_short lent_sizes (lent_policy (lent (goal.at.returns-in-Short c).Start)) (c.args.plane.now ∷ c.args.spans.now ∷ c.args.upright.now ∷ c.args.slots.now ∷ []) c.args.out.now _ (ap room_in (sym c.in-Short.is) ∙ c.work_slices.ensures)
+    let e = end_short lent_sizes (lent_policy (lent (goal.at.returns-in-Short c).Start)) (c.args.plane.now ∷ c.args.spans.now ∷ c.args.upright.now ∷ c.args.slots.now ∷ []) c.args.out.now _ (ap room_in (sym c.in-Short.is) ∙ c.work_slices.ensures) in
+    record { end = e }
