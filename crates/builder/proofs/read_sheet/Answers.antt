@@ -43,4 +43,5 @@ returns-in-Enough c = c.sheet_cleared.ensures
 
 pub returns-in-Short : goal.returns-in-Short
 returns-in-Short c =
-    end_short sheet_sizes (walked_policy c.args.s.now) (c.args.text.now ∷ c.args.thins.now ∷ c.args.bodies.now ∷ c.args.grid.now ∷ c.args.spans.now ∷ c.args.bytes.now ∷ []) c.args.out.now _ (ap room_in (sym c.in-Short.is) ∙ c.work_slices.ensures)
+    let e = end_short sheet_sizes (walked_policy c.args.s.now) (c.args.text.now ∷ c.args.thins.now ∷ c.args.bodies.now ∷ c.args.grid.now ∷ c.args.spans.now ∷ c.args.bytes.now ∷ []) c.args.out.now _ (ap room_in (sym c.in-Short.is) ∙ c.work_slices.ensures) in
+    record { end = e }

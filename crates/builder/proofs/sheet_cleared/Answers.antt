@@ -11,7 +11,7 @@ use Rattle.builder.proofs.sheet_cleared.Goals.{After-slice_known-20-1}
 gone : (c : After-slice_known-20-1) → Cleared (c.clear_four.new.a ∷ c.clear_four.new.b ∷ c.clear_four.new.c ∷ c.clear_four.new.d ∷ c.clear_u32.new.s ∷ c.clear_u8.new.s ∷ []) (c.args.text.now ∷ c.args.thins.now ∷ c.args.bodies.now ∷ c.args.grid.now ∷ c.args.spans.now ∷ c.args.bytes.now ∷ [])
 gone c =
     let s = c.args in
-    one (c.clear_four.ensures.0 ∙ zeros-same c.sheet_record-r.last.1.0 s.text.now c.sheet_record-r.auto.text) (one (c.clear_four.ensures.1 ∙ zeros-same c.sheet_record-r.last.1.1.0 s.thins.now c.sheet_record-r.auto.thins) (one (c.clear_four.ensures.2 ∙ zeros-same c.sheet_record-r.last.1.1.1.0 s.bodies.now c.sheet_record-r.auto.bodies) (one (c.clear_four.ensures.3 ∙ zeros-same c.sheet_record-r.last.1.1.1.1.0 s.grid.now c.sheet_record-r.auto.grid) (one (c.clear_u32.ensures ∙ zeros-same c.sheet_record-r.last.1.1.1.1.1.0 s.spans.now c.sheet_record-r.auto.spans) (one (c.clear_u8.ensures ∙ zeros-same c.sheet_record-r.last.1.1.1.1.1.1.0 s.bytes.now c.sheet_record-r.auto.bytes) (none))))))
+    one (c.clear_four.ensures.0 ∙ zeros-same c.sheet_record-r.new.text s.text.now c.sheet_record-r.auto.text) (one (c.clear_four.ensures.1 ∙ zeros-same c.sheet_record-r.new.thins s.thins.now c.sheet_record-r.auto.thins) (one (c.clear_four.ensures.2 ∙ zeros-same c.sheet_record-r.new.bodies s.bodies.now c.sheet_record-r.auto.bodies) (one (c.clear_four.ensures.3 ∙ zeros-same c.sheet_record-r.new.grid s.grid.now c.sheet_record-r.auto.grid) (one (c.clear_u32.ensures ∙ zeros-same c.sheet_record-r.new.spans s.spans.now c.sheet_record-r.auto.spans) (one (c.clear_u8.ensures ∙ zeros-same c.sheet_record-r.new.bytes s.bytes.now c.sheet_record-r.auto.bytes) (none))))))
 
 pub sheet_record-r-requires : goal.sheet_record-r-requires
 sheet_record-r-requires c =
@@ -41,4 +41,5 @@ shape_of-out c = c.sheet_record-r.auto.out
 
 pub returns : goal.returns
 returns c =
-    end_cleared sheet_sizes (walked_policy c.args.s.now) (c.args.text.now ∷ c.args.thins.now ∷ c.args.bodies.now ∷ c.args.grid.now ∷ c.args.spans.now ∷ c.args.bytes.now ∷ []) (c.clear_four.new.a ∷ c.clear_four.new.b ∷ c.clear_four.new.c ∷ c.clear_four.new.d ∷ c.clear_u32.new.s ∷ c.clear_u8.new.s ∷ []) c.args.out.now c.sheet_record-r.last.1.1.1.1.1.1.1.0 c.sheet_record-r.result c.requires c.sheet_record-r.ensures.outcome c.sheet_record-r.ensures.out (cleared_all (gone c))
+    let e = end_cleared sheet_sizes (walked_policy c.args.s.now) (c.args.text.now ∷ c.args.thins.now ∷ c.args.bodies.now ∷ c.args.grid.now ∷ c.args.spans.now ∷ c.args.bytes.now ∷ []) (c.clear_four.new.a ∷ c.clear_four.new.b ∷ c.clear_four.new.c ∷ c.clear_four.new.d ∷ c.clear_u32.new.s ∷ c.clear_u8.new.s ∷ []) c.args.out.now c.sheet_record-r.new.out c.sheet_record-r.result c.requires c.sheet_record-r.ensures.outcome c.sheet_record-r.ensures.out (cleared_all (gone c)) in
+    record { end = e }
