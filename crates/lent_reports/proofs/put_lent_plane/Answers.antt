@@ -18,7 +18,7 @@ told : (c : After-read_lent_plane-stated)
 told c =
     let a = c.args in
     let l : LentPlane = record { rows = a.rows.now; kinds = a.kinds.now; regions = a.regions.now; offsets = a.offsets.now; sizes = a.sizes.now; bytes = a.bytes.now } in
-    end_reported lent_sizes (lent_policy l) _ _ _ _ _ record_bytes (lent_printable l) (search rules) (search rules) c.read_lent_plane-stated.ensures
+    end_reported lent_sizes (lent_policy l) _ _ _ _ _ record_bytes (lent_printable l) (search rules) (search rules) c.read_lent_plane-stated.ensures.end
 
 pub slice_bounds-read_lent_plane-end : goal.slice_bounds-read_lent_plane-end
 slice_bounds-read_lent_plane-end c = refl

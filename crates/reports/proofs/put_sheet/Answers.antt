@@ -11,7 +11,7 @@ use Rattle.reports.proofs.put_sheet.Goals as goal
 use Rattle.reports.proofs.put_sheet.Goals.{After-read_sheet-drawn}
 
 told : (c : After-read_sheet-drawn) → Reported (walked_policy c.args.s.now) record_bytes c.read_sheet-drawn.result c.read_sheet-drawn.new.out
-told c = end_reported sheet_sizes (walked_policy c.args.s.now) _ _ _ _ _ record_bytes (drawn_printable c.args.s.now) (search rules) (search rules) c.read_sheet-drawn.ensures
+told c = end_reported sheet_sizes (walked_policy c.args.s.now) _ _ _ _ _ record_bytes (drawn_printable c.args.s.now) (search rules) (search rules) c.read_sheet-drawn.ensures.end
 
 pub slice_bounds-read_sheet-end : goal.slice_bounds-read_sheet-end
 slice_bounds-read_sheet-end c = refl
