@@ -38,7 +38,7 @@ drawing_by find rs = do
   size ← size_of rs
   outline_by find (text_layer rs) size.width size.height
 
--- the outline of the first sheet in some bytes: number 1 comes first, wherever the ill_formed bytes stand
+-- the outline of the first sheet in some bytes: number 1 comes first, wherever the ill-formed bytes stand
 unfoldable pub sheet_by : FrameFinder → List ℕ → Reading Outline
 sheet_by find s = on_text (checked s) (λ at. refused (InvalidUtf8 at)) (drawing_by find (rows_at s 0))
 

@@ -1,4 +1,4 @@
--- Document 01: a plane "is lent with its own row lengths and the same regions and texts". Its slices are well_formed_lem and give it back.
+-- Document 01: a plane "is lent with its own row lengths and the same regions and texts". Its slices are well-formed and give it back.
 use mathlib.Core.Path.{◌≡◌, refl, sym, ap, ◌∙◌, subst}
 use mathlib.Core.Bool.{Bool, true, ◌&&◌}
 use mathlib.Core.List.{List, [], ◌∷◌, map, flatten}

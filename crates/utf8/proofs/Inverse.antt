@@ -318,7 +318,7 @@ check-encodes i (c ∷ cs) h =
     check_char i (encode c ++ encodes cs) c (length (encode c)) (decode-encode c (encodes cs) h.0)
     ∙ rw (drop-append_seam (encode c) (encodes cs)) (check-encodes (i + length (encode c)) cs h.1)
 
--- those bytes are well_formed_lem
+-- those bytes are well-formed
 pub checked-encodes : (cs : List ℕ) → AllScalar cs → checked (encodes cs) ≡ Valid
 checked-encodes cs h = check-encodes 0 cs h
 
@@ -351,6 +351,6 @@ encodes-read zero i (b ∷ s) e = go (decode (b ∷ s)) refl e (λ k. encodes-re
     go IllFormed p e h = let z : ◌≡◌ {A = ℕ} 0 1 = cc in absurd (omega arith)
     go End p e h = let z : ◌≡◌ {A = ℕ} 0 1 = cc in absurd (omega arith)
 
--- the bytes of a well_formed_lem text's code points are the text
+-- the bytes of a well-formed text's code points are the text
 pub encodes-codes : (s : List ℕ) → checked s ≡ Valid → encodes (codes s) ≡ s
 encodes-codes s e = encodes-read 0 0 s e

@@ -231,7 +231,7 @@ pub check-none : (i : ℕ) (s : List ℕ) → decode s ≡ End → check 0 i s �
 unfolding check
 check-none i s e = rw (decode-none s e)
 
--- nothing is left at the end, and from an ill_formed sequence on
+-- nothing is left at the end, and from an ill-formed sequence on
 pub codes_bad : (s : List ℕ) → decode s ≡ IllFormed → codes s ≡ []
 unfolding read decode
 codes_bad [] e = refl

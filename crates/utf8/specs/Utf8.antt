@@ -1,4 +1,4 @@
--- UTF-8: the Unicode Standard's table 3-7, well_formed_lem byte sequences, and table 3-6, the code point that one stands for.
+-- UTF-8: the Unicode Standard's table 3-7, well-formed byte sequences, and table 3-6, the code point that one stands for.
 use Rattle.std.specs.Prelude.{Bool, ◌&&◌, List, [], ◌∷◌, ◌++◌, ◌≡◌, ℕ, zero, suc, ◌+◌, ◌-◌, ◌*◌, ◌/◌, ◌%◌, leb, drop}
 use Rattle.lists.specs.Choose.{choose}
 use Rattle.utf8.specs.declared.Decoded.{Decoded}
@@ -70,7 +70,7 @@ onward (Char c n) stop rest = rest c (n - 1)
 onward IllFormed stop rest = stop
 onward End stop rest = stop
 
--- one sequence after another, from index `at` on: the index of the first that is ill_formed. `skip` counts the bytes of a sequence that are left
+-- one sequence after another, from index `at` on: the index of the first that is ill-formed. `skip` counts the bytes of a sequence that are left
 unfoldable pub check : ℕ → ℕ → List ℕ → Checked
 check skip at [] = Valid
 check (suc skip) at (b ∷ s) = check skip (at + 1) s
@@ -83,12 +83,12 @@ checked s = check 0 0 s
 abbrev pub SameCheck : List ℕ → ℕ → ℕ → Type 0
 SameCheck s at to = check 0 at (drop at s) ≡ check 0 to (drop to s)
 
--- a check's answer: what follows for well_formed_lem bytes, or for the index of the first ill_formed sequence
+-- a check's answer: what follows for well-formed bytes, or for the index of the first ill-formed sequence
 abbrev pub on_text : {A : Type 0} → Checked → (ℕ → A) → A → A
 on_text Valid bad a = a
 on_text (Invalid at) bad a = bad at
 
--- the code points, up to the first ill_formed sequence
+-- the code points, up to the first ill-formed sequence
 unfoldable pub read : ℕ → List ℕ → List ℕ
 read skip [] = []
 read (suc skip) (b ∷ s) = read skip s

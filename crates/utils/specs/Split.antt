@@ -21,7 +21,7 @@ split_by (marked place part bare) t room =
     (refused (OutputSliceShort (length (replace_all 0 part bare t))))
     (ok (values_by (marked place part bare) t))
 
--- what the split answers: number 1 for ill_formed UTF-8
+-- what the split answers: number 1 for ill-formed UTF-8
 unfoldable pub split_of : List ℕ → ℕ → Reading Values
 split_of t room = on_text (checked t) (λ at. refused (InvalidUtf8 at)) (split_by (choice_of t) t room)
 

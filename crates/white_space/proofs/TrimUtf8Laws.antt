@@ -70,7 +70,7 @@ trimming_start {s} {from} l =
     let z : from - from ≡ 0 = omega arith in
     record { led = l; low = omega arith; mid = omega arith; inside = l.inside; done = []; passed = refl; bytes = rw z; kept = rw z; checks = l.checks }
 
--- the whole text, where it is ill_formed
+-- the whole text, where it is ill-formed
 pub trimming_bad : (s : List ℕ) (at : ℕ) → checked s ≡ Invalid at → PartIn s 0 (length s) (trim_start_utf8 s) (trim_utf8 s) 0 (length s)
 unfolding trim_utf8 trim_start_utf8
 trimming_bad s at e = record { low = omega arith; ordered = omega arith; high = omega arith; start = rw e (omega arith); text = part_end s 0 ∙ rw e }

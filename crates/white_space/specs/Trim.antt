@@ -23,12 +23,12 @@ trim_end (c ∷ s) = before c (trim_end s)
 unfoldable pub trim : List ℕ → List ℕ
 trim s = trim_end (trim_start s)
 
--- the bytes s, or x where they are well_formed_lem
+-- the bytes s, or x where they are well-formed
 abbrev pub where_valid : Checked → List ℕ → List ℕ → List ℕ
 where_valid Valid x s = x
 where_valid (Invalid at) x s = s
 
--- a text in UTF-8 without the white space in front, and at both ends: its code points trimmed. What is ill_formed stays as it is
+-- a text in UTF-8 without the white space in front, and at both ends: its code points trimmed. What is ill-formed stays as it is
 unfoldable pub trim_start_utf8 : List ℕ → List ℕ
 trim_start_utf8 s = where_valid (checked s) (encodes (trim_start (codes s))) s
 

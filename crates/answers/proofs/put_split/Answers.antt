@@ -6,10 +6,6 @@ use Rattle.print.proofs.WrittenLaws.{written_as, written_within}
 use Rattle.answers.proofs.SplitLaws.{places, printed-values, parts_most}
 use native.Mathlib.Omega.{arith}
 use Rattle.answers.proofs.put_split.Goals as goal
-use Rattle.answers.proofs.put_split.Tie as tie
-
--- LEFT slice-aggregate-put-word : tie.Need-slice-aggregate-put-word
--- slice-aggregate-put-word c = refl
 
 pub slice_bounds-put_values-end : goal.slice_bounds-put_values-end
 slice_bounds-put_values-end c = omega (arith, (places _ _ _ c.requires.3 c.in-Rewritten.is).0)

@@ -5,19 +5,6 @@ use Rattle.listing.specs.RecordLines.{count_lines}
 use Rattle.listing.proofs.LineLaws.{written_four}
 use native.Mathlib.Omega.{arith}
 use Rattle.listing.proofs.put_counts.Goals as goal
-use Rattle.listing.proofs.put_counts.Tie as tie
-
--- LEFT slice-aggregate-put-line : tie.Need-slice-aggregate-put-line
--- slice-aggregate-put-line c = refl
-
--- LEFT slice-aggregate-put-line-2 : tie.Need-slice-aggregate-put-line-2
--- slice-aggregate-put-line-2 c = refl
-
--- LEFT slice-aggregate-put-line-3 : tie.Need-slice-aggregate-put-line-3
--- slice-aggregate-put-line-3 c = refl
-
--- LEFT slice-aggregate-put-line-4 : tie.Need-slice-aggregate-put-line-4
--- slice-aggregate-put-line-4 c = refl
 
 pub returns : goal.returns
 unfolding count_lines

@@ -5,13 +5,6 @@ use Rattle.listing.specs.RecordLines.{part_words}
 use Rattle.listing.proofs.LineLaws.{written_part}
 use native.Mathlib.Omega.{arith}
 use Rattle.listing.proofs.put_part.Goals as goal
-use Rattle.listing.proofs.put_part.Tie as tie
-
--- LEFT slice-aggregate-put-word : tie.Need-slice-aggregate-put-word
--- slice-aggregate-put-word c = refl
-
--- LEFT slice-aggregate-put-word-2 : tie.Need-slice-aggregate-put-word-2
--- slice-aggregate-put-word-2 c = refl
 
 pub returns : goal.returns
 unfolding part_words

@@ -5,13 +5,6 @@ use Rattle.listing.specs.RecordLines.{absent_line, present_line}
 use Rattle.listing.proofs.LineLaws.{slot_absent, slot_present}
 use native.Mathlib.Omega.{arith}
 use Rattle.listing.proofs.put_slot.Goals as goal
-use Rattle.listing.proofs.put_slot.Tie as tie
-
--- LEFT slice-aggregate-put-word : tie.Need-slice-aggregate-put-word
--- slice-aggregate-put-word c = refl
-
--- LEFT slice-aggregate-put-word-2 : tie.Need-slice-aggregate-put-word-2
--- slice-aggregate-put-word-2 c = refl
 
 pub returns-then-is_absent : goal.returns-then-is_absent
 unfolding absent_line

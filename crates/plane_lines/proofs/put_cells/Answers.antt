@@ -4,7 +4,6 @@ use Prim.Native.Nat.{◌-◌}
 use Rattle.plane_lines.proofs.PlaneLaws.{celling_start, celling_more, celling_end}
 use native.Mathlib.Omega.{arith}
 use Rattle.plane_lines.proofs.put_cells.Goals as goal
-use Rattle.plane_lines.proofs.put_cells.Tie as tie
 
 pub overflow_cast-count : goal.overflow_cast-count
 overflow_cast-count c = record { fits = omega (arith, c.requires.1.cells c.args.row (omega arith)) }
@@ -28,9 +27,6 @@ overflow_add-i c =
 pub loop-i-preserved : goal.loop-i-preserved
 loop-i-preserved c =
     celling_more c.loop-i.invariant (c.requires.1.cells c.args.row (omega arith)) c.loop-i-test.true (omega (arith, c.put_number-n.ensures.short, c.put_number-n.auto.out)) c.put_cell-n.ensures c.put_cell-n.auto.out
-
--- LEFT slice-aggregate-put-word : tie.Need-slice-aggregate-put-word invariant-loop decreases-loop
--- slice-aggregate-put-word c = refl
 
 pub put_word-requires : goal.put_word-requires
 put_word-requires c =

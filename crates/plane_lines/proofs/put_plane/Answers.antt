@@ -4,10 +4,6 @@ use mathlib.Core.Path.{◌∙◌, refl}
 use Rattle.plane_lines.proofs.PlaneLaws.{rowing_start, rowing_room, rowing_more, rowing_end}
 use native.Mathlib.Omega.{arith}
 use Rattle.plane_lines.proofs.put_plane.Goals as goal
-use Rattle.plane_lines.proofs.put_plane.Tie as tie
-
--- LEFT slice-aggregate-put-count : tie.Need-slice-aggregate-put-count invariant-loop decreases-loop
--- slice-aggregate-put-count c = refl
 
 pub loop-row-init : goal.loop-row-init
 loop-row-init c = rowing_start _ _ _ _ (omega (arith, c.put_count-m.auto.out, c.put_count-m.ensures.short))

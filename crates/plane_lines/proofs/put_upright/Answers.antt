@@ -4,10 +4,6 @@ use Rattle.print.proofs.WrittenLaws.{written_then, written_within}
 use Rattle.plane_lines.specs.Planes.{upright_lines}
 use native.Mathlib.Omega.{arith}
 use Rattle.plane_lines.proofs.put_upright.Goals as goal
-use Rattle.plane_lines.proofs.put_upright.Tie as tie
-
--- LEFT slice-aggregate-put-three : tie.Need-slice-aggregate-put-three
--- slice-aggregate-put-three c = refl
 
 pub returns : goal.returns
 unfolding upright_lines
