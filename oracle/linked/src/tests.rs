@@ -272,7 +272,7 @@ fn inputs_at_the_limits() {
 #[test]
 fn refusals_reached() {
     let (table, wrong) = Reached::default().told();
-    assert!(table.contains("clauses OnlyTwoSizes.only-two-sizes"));
+    assert!(table.contains("clauses OnlyTwoSizes.only_two_sizes"));
     let seldom = "23 (no output clause) is reached 0 times by the reader: too seldom";
     assert!(wrong.iter().any(|line| line == seldom), "{wrong:?}");
     let mut reached = Reached::default();
