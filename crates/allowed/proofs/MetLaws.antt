@@ -1,4 +1,5 @@
 -- Regions met twice: in the cells of a row, and in the row above.
+use Rattle.std.specs.Prelude.{Ok, Err, Bool}
 use mathlib.Core.Path.{◌≡◌, refl, sym, ap, ◌∙◌}
 use mathlib.Core.Bool.{Bool, true, false, ◌||◌, or_comm, or_assoc, or-false}
 use mathlib.Core.List.{List, [], ◌∷◌}
@@ -8,7 +9,7 @@ use native.Mathlib.Omega.{arith}
 use lib.Dec.{eqb, ltb}
 use lib.ListN.{get_or}
 use borrow.Author.Tests.{eq-eqb, ne_eqb, ltb-true, ltb-false}
-use Rattle.lists.specs.Answer.{ok, refused, ◌>>=◌}
+use Rattle.lists.specs.Answer.{◌>>=◌}
 use Rattle.lists.specs.Choose.{choose, on_some}
 use Rattle.lists.specs.OneOf.{one_of, any_at}
 use Rattle.lists.proofs.AnswerLaws.{refused-ok}
@@ -17,11 +18,9 @@ use Rattle.lists.proofs.Tests.{by_flag}
 use Rattle.model.specs.Cells.{cell_of_kind, region_of}
 use Rattle.model.specs.declared.Refusal.{Refusal}
 use Rattle.model.specs.declared.Refusal.TheVariants.{CellNotRegion}
+use Rattle.model.specs.Refusals.{Reading}
 use Rattle.cells.specs.Plane.{Plane, place_at, cell_at, plane_in}
 use Rattle.cell_tests.specs.SheetCells.{region_at}
-use Rattle.cell_tests.specs.Told.{test_in}
-use Rattle.cell_tests.specs.declared.Test.{Test}
-use Rattle.cell_tests.specs.declared.Test.TheVariants.{Is, NotTold}
 use Rattle.cell_tests.proofs.CellLaws.{region_below, region-right, region-by}
 use Rattle.allowed.specs.Apart.{twice, once, meet_row, apart_from, all_apart}
 use Rattle.allowed.specs.Met.{met, met_in}
@@ -30,7 +29,7 @@ use Rattle.allowed.specs.Met.{met, met_in}
 abbrev number_at : List ℕ → ℕ → ℕ → ℕ
 number_at d y x = get_or d (place_at y x) 0 / 8
 
-region-kind : (k r a : ℕ) (q : Refusal) → ok a ≡ on_some (region_of (cell_of_kind k r)) ok (refused q) → a ≡ r
+region-kind : (k r a : ℕ) (q : Refusal) → Ok a ≡ on_some (region_of (cell_of_kind k r)) Ok (Err q) → a ≡ r
 region-kind zero r a q e = cc
 region-kind (suc zero) r a q e = refused-ok (sym e)
 region-kind (suc (suc zero)) r a q e = refused-ok (sym e)
@@ -41,7 +40,7 @@ region-kind (suc (suc (suc (suc (suc (suc zero)))))) r a q e = refused-ok (sym e
 region-kind (suc (suc (suc (suc (suc (suc (suc k))))))) r a q e = refused-ok (sym e)
 
 -- a region that is read is the one that the slice holds
-pub region_number_lem : (d : List ℕ) (rows y x a : ℕ) → ok a ≡ region_at (plane_in d rows) y x → a ≡ number_at d y x
+pub region_number_lem : (d : List ℕ) (rows y x a : ℕ) → Ok a ≡ region_at (plane_in d rows) y x → a ≡ number_at d y x
 region_number_lem d rows y x a e = by_flag (ltb y rows) (λ t. inside (ltb-true y rows t)) (λ t. refused-ok (region_below d rows y x (ltb-false y rows t) ∙ sym e))
   where
     there : y < rows → x < get_or d y 0 → a ≡ number_at d y x
@@ -119,7 +118,7 @@ meet_start P d y x n s =
     record { within = omega arith; rest = rw (a, b) }
 
 module _ {P : Plane} {d : List ℕ} {y x n : ℕ} {s : List ℕ} {i : ℕ} (p : Meeting P d y x n s i) where
-  pub meet_end : n ≤ i → meet_row P y x n s ≡ ok (once (met d y x n s))
+  pub meet_end : n ≤ i → meet_row P y x n s ≡ Ok (once (met d y x n s))
   unfolding meet_row
   meet_end h =
       let e : n - i ≡ 0 = omega arith in
@@ -128,18 +127,18 @@ module _ {P : Plane} {d : List ℕ} {y x n : ℕ} {s : List ℕ} {i : ℕ} (p : 
 
   module _ (h : i < n) where
     turn : meet_row P y x n s
-        ≡ ◌>>=◌ (region_at P y (x + i)) (λ a. choose (one_of a (met d y x i s)) (ok twice) (meet_row P y (x + (i + 1)) (n - (i + 1)) (a ∷ met d y x i s)))
+        ≡ ◌>>=◌ (region_at P y (x + i)) (λ a. choose (one_of a (met d y x i s)) (Ok twice) (meet_row P y (x + (i + 1)) (n - (i + 1)) (a ∷ met d y x i s)))
     unfolding meet_row
     turn =
         let e : n - i ≡ suc (n - (i + 1)) = omega arith in
         let k : x + (i + 1) ≡ suc (x + i) = omega arith in
         p.rest ∙ rw (e, k)
 
-    pub meet_out : {r : Refusal} → refused r ≡ region_at P y (x + i) → meet_row P y x n s ≡ refused r
+    pub meet_out : {r : Refusal} → Err r ≡ region_at P y (x + i) → meet_row P y x n s ≡ Err r
     meet_out e = turn ∙ rw (sym e)
 
-    module _ {a : ℕ} {t : Bool} (e : ok a ≡ region_at P y (x + i)) (q : t ≡ one_of a (met d y x i s)) where
-      pub meet_twice : t ≡ true → meet_row P y x n s ≡ ok twice
+    module _ {a : ℕ} {t : Bool} (e : Ok a ≡ region_at P y (x + i)) (q : t ≡ one_of a (met d y x i s)) where
+      pub meet_twice : t ≡ true → meet_row P y x n s ≡ Ok twice
       meet_twice u = turn ∙ rw (sym e, sym q, u)
 
       pub meet_next : t ≡ false → a ≡ number_at d y (x + i) → Meeting P d y x n s (i + 1)
@@ -148,17 +147,17 @@ module _ {P : Plane} {d : List ℕ} {y x n : ℕ} {s : List ℕ} {i : ℕ} (p : 
 
 -- rows 0 and 1, in the n columns from x on
 module _ (P : Plane) (x n : ℕ) where
-  pub apart_out : {r : Refusal} → meet_row P 0 x n [] ≡ refused r → refused r ≡ all_apart P 2 x n
+  pub apart_out : {r : Refusal} → meet_row P 0 x n [] ≡ Err r → Err r ≡ all_apart P 2 x n
   unfolding apart_from
   apart_out e = rw e
 
-  pub apart_not : meet_row P 0 x n [] ≡ ok twice → ok false ≡ all_apart P 2 x n
+  pub apart_not : meet_row P 0 x n [] ≡ Ok twice → Ok false ≡ all_apart P 2 x n
   unfolding apart_from
   apart_not e = rw e
 
-  pub apart_below : (d : List ℕ) (t : Test) → meet_row P 0 x n [] ≡ ok (once (met d 0 x n []))
-      → meet_row P 1 x n (met d 0 x n []) ≡ met_in t (met d 1 x n (met d 0 x n [])) → test_in t ≡ all_apart P 2 x n
+  pub apart_below : (d : List ℕ) (t : Reading Bool) → meet_row P 0 x n [] ≡ Ok (once (met d 0 x n []))
+      → meet_row P 1 x n (met d 0 x n []) ≡ met_in t (met d 1 x n (met d 0 x n [])) → t ≡ all_apart P 2 x n
   unfolding apart_from
-  apart_below d (Is true) e f = rw (e, f)
-  apart_below d (Is false) e f = rw (e, f)
-  apart_below d (NotTold r) e f = rw (e, f)
+  apart_below d (Ok true) e f = rw (e, f)
+  apart_below d (Ok false) e f = rw (e, f)
+  apart_below d (Err r) e f = rw (e, f)

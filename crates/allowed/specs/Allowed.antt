@@ -1,7 +1,7 @@
 -- Whether there are allowed values: document 01, "The policy that a drawing states", and `recognize_horizontal_table` of the Rust.
 -- The order of the lines is the order in which cells are read and sheets are refused.
-use Rattle.std.specs.Prelude.{Bool, true, false, not, ℕ, ◌+◌, eqb, ltb}
-use Rattle.lists.specs.Answer.{ok, refused, ◌>>=◌, ◌>>◌}
+use Rattle.std.specs.Prelude.{Bool, true, false, not, ℕ, ◌+◌, eqb, ltb, Ok, Err}
+use Rattle.lists.specs.Answer.{◌>>=◌, ◌>>◌}
 use Rattle.lists.specs.Choose.{choose}
 use Rattle.model.specs.Refusals.{Reading}
 use Rattle.model.specs.declared.Refusal.TheVariants.{ClauseRows, InvalidInputExpressions, InvalidOutputExpressions}
@@ -25,7 +25,7 @@ allowed_two P n m = do
   inputs ← columns_are true P 0 0 n
   outputs ← columns_are true P 0 (n + 1) m
   apart ← all_apart P 2 (n + 1) m
-  ok (allowed_by inputs (ltb 0 n) (ltb 1 m) outputs apart)
+  Ok (allowed_by inputs (ltb 0 n) (ltb 1 m) outputs apart)
 
 -- with three: expressions and allowed values stand apart, else 21 or 22
 unfoldable pub allowed_three : Plane → ℕ → ℕ → Reading Bool
@@ -34,9 +34,9 @@ allowed_three P n m = do
   refuse (not inputs) InvalidInputExpressions
   outputs ← columns_are false P 1 (n + 1) m
   refuse (not outputs) InvalidOutputExpressions
-  ok true
+  Ok true
 
 -- with one there are none; 20 with any other count
 unfoldable pub allowed_of : Plane → ℕ → ℕ → ℕ → Reading Bool
 allowed_of P n m h =
-    choose (eqb h 1) (ok false) (choose (eqb h 2) (allowed_two P n m) (choose (eqb h 3) (allowed_three P n m) (refused (ClauseRows h))))
+    choose (eqb h 1) (Ok false) (choose (eqb h 2) (allowed_two P n m) (choose (eqb h 3) (allowed_three P n m) (Err (ClauseRows h))))

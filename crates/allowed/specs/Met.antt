@@ -1,10 +1,7 @@
 -- The regions of a row's cells in a slice, the last one first.
-use Rattle.std.specs.Prelude.{Bool, true, false, List, [], ◌∷◌, ℕ, zero, suc, ◌+◌, ◌-◌, ◌/◌, get_or}
-use Rattle.lists.specs.Answer.{ok, refused}
+use Rattle.std.specs.Prelude.{Bool, true, false, List, [], ◌∷◌, ℕ, zero, suc, ◌+◌, ◌-◌, ◌/◌, get_or, Ok, Err}
 use Rattle.model.specs.Refusals.{Reading}
 use Rattle.cells.specs.Plane.{place_at}
-use Rattle.cell_tests.specs.declared.Test.{Test}
-use Rattle.cell_tests.specs.declared.Test.TheVariants.{Is, NotTold}
 use Rattle.allowed.specs.Apart.{Met, twice, once}
 
 -- those of the n cells of row y from column x on, in front of s
@@ -18,7 +15,7 @@ met_above true d y x n = met d (y - 1) x n []
 met_above false d y x n = []
 
 -- what a test says, with the regions met
-abbrev pub met_in : Test → List ℕ → Reading Met
-met_in (Is true) s = ok (once s)
-met_in (Is false) s = ok twice
-met_in (NotTold r) s = refused r
+abbrev pub met_in : Reading Bool → List ℕ → Reading Met
+met_in (Ok true) s = Ok (once s)
+met_in (Ok false) s = Ok twice
+met_in (Err r) s = Err r

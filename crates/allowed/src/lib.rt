@@ -5,12 +5,10 @@ ghost use Rattle.std.specs.Prelude.{true, [], ◌≡◌, ◌+◌, ◌≤◌, ◌
 ghost use Rattle.lists.specs.OneOf.{one_of};
 ghost use Rattle.model.specs.Limits.{plane_rows, plane_cells, plane_size};
 ghost use Rattle.cells.specs.Plane.{plane_in, PlaneFits};
-ghost use Rattle.cell_tests.specs.Told.{test_in};
 ghost use Rattle.allowed.specs.Apart.{meet_row, all_apart};
 ghost use Rattle.allowed.specs.Allowed.{allowed_by, allowed_two, allowed_three, allowed_of};
 ghost use Rattle.allowed.specs.Met.{met, met_above, met_in};
 
-use cell_tests::{CellRead, Test};
 use model::Refusal;
 use model::limits::{PLANE_CELLS, PLANE_ROWS};
 
@@ -19,12 +17,10 @@ fn is_among(plane: &[u32], y: usize, x: usize, n: usize, a: usize) -> bool
     requires { (plane_size ≤ length plane.now) × (y < plane_rows) × (x + n ≤ plane_cells) }
     ensures { result ≡ one_of a (met plane.now y x n []) }
 {
-    let mut i = 0;
-    while i < n {
+    for i in 0..n {
         if (plane[PLANE_ROWS + y * PLANE_CELLS + (x + i)] / 8) as usize == a {
             return true;
         }
-        i += 1;
     }
     false
 }
@@ -45,40 +41,37 @@ fn is_met(plane: &[u32], y: usize, x: usize, n: usize, i: usize, a: usize, above
 }
 
 // Whether no region stands twice in the n cells of row y from column x on nor, if above, in the row above.
-fn row_apart(plane: &[u32], rows: usize, y: usize, x: usize, n: usize, above: bool) -> Test
+fn row_apart(
+    plane: &[u32],
+    rows: usize,
+    y: usize,
+    x: usize,
+    n: usize,
+    above: bool,
+) -> Result<bool, Refusal>
     requires plane_fits { PlaneFits plane.now rows × (y < plane_rows) × (x + n ≤ plane_cells) }
     requires le_y { above ≡ true → 1 ≤ y }
     ensures { meet_row (plane_in plane.now rows) y x n (met_above above plane.now y x n) ≡ met_in result (met plane.now y x n (met_above above plane.now y x n)) }
 {
-    let mut i = 0;
-    while i < n {
-        match cell_tests::region_at(plane, rows, y, x + i) {
-            CellRead::Number(a) => {
-                if is_met(plane, y, x, n, i, a, above) {
-                    return Test::Is(false);
-                }
-            }
-            CellRead::NotRead(r) => return Test::NotTold(r),
+    for i in 0..n {
+        let a = cell_tests::region_at(plane, rows, y, x + i)?;
+        if is_met(plane, y, x, n, i, a, above) {
+            return Ok(false);
         }
-        i += 1;
     }
-    Test::Is(true)
+    Ok(true)
 }
 
 // Whether no region stands twice in rows 0 and 1, in the n columns from x on.
-fn two_apart(plane: &[u32], rows: usize, x: usize, n: usize) -> Test
+fn two_apart(plane: &[u32], rows: usize, x: usize, n: usize) -> Result<bool, Refusal>
     requires { PlaneFits plane.now rows × (x + n ≤ plane_cells) }
-    ensures { test_in result ≡ all_apart (plane_in plane.now rows) 2 x n }
+    ensures { result ≡ all_apart (plane_in plane.now rows) 2 x n }
 {
-    match row_apart(plane, rows, 0, x, n, false) {
-        Test::Is(t) => {
-            if t {
-                return row_apart(plane, rows, 1, x, n, true);
-            }
-            Test::Is(false)
-        }
-        Test::NotTold(r) => Test::NotTold(r),
+    let t = row_apart(plane, rows, 0, x, n, false)?;
+    if t {
+        return row_apart(plane, rows, 1, x, n, true);
     }
+    Ok(false)
 }
 
 // Whether there are allowed values, by the five facts for two clause rows.
@@ -101,56 +94,37 @@ fn allowed_by(inputs: bool, has: bool, several: bool, outputs: bool, apart: bool
 }
 
 // With two clause rows.
-fn allowed_two(plane: &[u32], rows: usize, n: usize, m: usize) -> Test
+fn allowed_two(plane: &[u32], rows: usize, n: usize, m: usize) -> Result<bool, Refusal>
     requires { PlaneFits plane.now rows × (n + 1 + m ≤ plane_cells) }
-    ensures { test_in result ≡ allowed_two (plane_in plane.now rows) n m }
+    ensures { result ≡ allowed_two (plane_in plane.now rows) n m }
 {
-    let inputs = match cell_tests::columns_are(plane, rows, true, 0, 0, n) {
-        Test::Is(t) => t,
-        Test::NotTold(r) => return Test::NotTold(r),
-    };
-    let outputs = match cell_tests::columns_are(plane, rows, true, 0, n + 1, m) {
-        Test::Is(t) => t,
-        Test::NotTold(r) => return Test::NotTold(r),
-    };
-    let apart = match two_apart(plane, rows, n + 1, m) {
-        Test::Is(t) => t,
-        Test::NotTold(r) => return Test::NotTold(r),
-    };
-    Test::Is(allowed_by(inputs, 0 < n, 1 < m, outputs, apart))
+    let inputs = cell_tests::columns_are(plane, rows, true, 0, 0, n)?;
+    let outputs = cell_tests::columns_are(plane, rows, true, 0, n + 1, m)?;
+    let apart = two_apart(plane, rows, n + 1, m)?;
+    Ok(allowed_by(inputs, 0 < n, 1 < m, outputs, apart))
 }
 
 // With three clause rows.
-fn allowed_three(plane: &[u32], rows: usize, n: usize, m: usize) -> Test
+fn allowed_three(plane: &[u32], rows: usize, n: usize, m: usize) -> Result<bool, Refusal>
     requires { PlaneFits plane.now rows × (n + 1 + m ≤ plane_cells) }
-    ensures { test_in result ≡ allowed_three (plane_in plane.now rows) n m }
+    ensures { result ≡ allowed_three (plane_in plane.now rows) n m }
 {
-    match cell_tests::columns_are(plane, rows, false, 1, 0, n) {
-        Test::Is(t) => {
-            if !t {
-                return Test::NotTold(Refusal::InvalidInputExpressions);
-            }
-        }
-        Test::NotTold(r) => return Test::NotTold(r),
+    if !cell_tests::columns_are(plane, rows, false, 1, 0, n)? {
+        return Err(Refusal::InvalidInputExpressions);
     }
-    match cell_tests::columns_are(plane, rows, false, 1, n + 1, m) {
-        Test::Is(t) => {
-            if !t {
-                return Test::NotTold(Refusal::InvalidOutputExpressions);
-            }
-        }
-        Test::NotTold(r) => return Test::NotTold(r),
+    if !cell_tests::columns_are(plane, rows, false, 1, n + 1, m)? {
+        return Err(Refusal::InvalidOutputExpressions);
     }
-    Test::Is(true)
+    Ok(true)
 }
 
 // Whether n inputs and m outputs have allowed values under h clause rows.
-pub fn allowed(plane: &[u32], rows: usize, n: usize, m: usize, h: usize) -> Test
+pub fn allowed(plane: &[u32], rows: usize, n: usize, m: usize, h: usize) -> Result<bool, Refusal>
     requires { PlaneFits plane.now rows × (n + 1 + m ≤ plane_cells) }
-    ensures { test_in result ≡ allowed_of (plane_in plane.now rows) n m h }
+    ensures { result ≡ allowed_of (plane_in plane.now rows) n m h }
 {
     if h == 1 {
-        return Test::Is(false);
+        return Ok(false);
     }
     if h == 2 {
         return allowed_two(plane, rows, n, m);
@@ -158,5 +132,5 @@ pub fn allowed(plane: &[u32], rows: usize, n: usize, m: usize, h: usize) -> Test
     if h == 3 {
         return allowed_three(plane, rows, n, m);
     }
-    Test::NotTold(Refusal::ClauseRows(h))
+    Err(Refusal::ClauseRows(h))
 }

@@ -5,16 +5,16 @@ pub mod sets;
 
 ghost use Rattle.std.specs.Prelude.{◌≡◌, length};
 ghost use Rattle.lists.specs.Picture.{canvas};
-ghost use Rattle.walks.specs.Walk.{steps_in};
 ghost use Rattle.walks.specs.Frame.{Place};
 ghost use Rattle.walks.specs.Sets.{Sought};
 ghost use Rattle.walks.specs.declared.Direction.TheVariants.{Left};
 ghost use Rattle.along.specs.Characters.{searched_of, allowed_of, along_of};
 ghost use Rattle.along.specs.declared.Lines.TheVariants.{Region, Rectangle, Name, Body, Crossing};
 
+use model::Refusal;
 use model::box_drawing::*;
 use sets::*;
-use walks::{Characters, Direction, Set, Walked};
+use walks::{Characters, Direction, Set};
 
 // What is walked along: the frames of THIN, those of GRID, the box of the name, the double lines to the sides of the
 // body, and those to an annotation crossing.
@@ -228,9 +228,9 @@ pub fn along(
     h: usize,
     x: usize,
     y: usize,
-) -> Walked
+) -> Result<usize, Refusal>
     requires { Place w h x y (length layer.now) }
-    ensures { steps_in result ≡ along_of lines d (canvas w h layer.now) w h x y }
+    ensures { result ≡ along_of lines d (canvas w h layer.now) w h x y }
 {
     walks::go(d, layer, w, h, x, y, characters(lines, d))
 }

@@ -1,6 +1,5 @@
 -- The lines that the judge prints for a lent plane.
-use Rattle.std.specs.Prelude.{List, ℕ}
-use Rattle.lists.specs.Answer.{ok, refused}
+use Rattle.std.specs.Prelude.{List, ℕ, Ok, Err}
 use Rattle.model.specs.Policies.{policy_number, orientation_number}
 use Rattle.model.specs.Refusals.{Reading, numbers}
 use Rattle.lent.specs.LentPlane.{LentPlane}
@@ -11,8 +10,8 @@ use Rattle.plane_lines.specs.Planes.{upright_lines}
 
 -- the upright sheet, or why there is none
 abbrev pub sheet_printed : Reading Sheet → List ℕ
-sheet_printed (ok s) = upright_lines (orientation_number s.orientation) (policy_number s.policy) s.rules s.plane
-sheet_printed (refused r) = refused_line (numbers r)
+sheet_printed (Ok s) = upright_lines (orientation_number s.orientation) (policy_number s.policy) s.rules s.plane
+sheet_printed (Err r) = refused_line (numbers r)
 
 -- the lines for a lent plane
 unfoldable pub lent_lines : LentPlane → List ℕ

@@ -1,7 +1,5 @@
 -- The line that the judge prints for a text of the value split.
-use Rattle.std.specs.Prelude.{List, [], ◌∷◌, ℕ}
-use Rattle.std.proofs.Math.Option.{Option, none, some}
-use Rattle.lists.specs.Answer.{ok, refused}
+use Rattle.std.specs.Prelude.{List, [], ◌∷◌, ℕ, Option, None, Some, Ok, Err}
 use Rattle.model.specs.Refusals.{Reading, numbers}
 use Rattle.values.specs.Values.{Values}
 use Rattle.utils.specs.Split.{split_of}
@@ -12,13 +10,13 @@ abbrev pub own_line : List ℕ
 own_line = 0x6F ∷ 0x77 ∷ 0x6E ∷ line_feed ∷ []
 
 abbrev pub printed_by : List ℕ → Option (List ℕ) → List ℕ
-printed_by allowed none = own_line
-printed_by allowed (some bare) = values_line allowed bare
+printed_by allowed None = own_line
+printed_by allowed (Some bare) = values_line allowed bare
 
 -- the line that is printed for what the split answers
 abbrev pub printed : Reading Values → List ℕ
-printed (ok v) = printed_by v.allowed v.default
-printed (refused r) = refused_line (numbers r)
+printed (Ok v) = printed_by v.allowed v.default
+printed (Err r) = refused_line (numbers r)
 
 -- the line that is printed for a text, with a scratch slice of so many bytes
 unfoldable pub split_line : ℕ → List ℕ → List ℕ

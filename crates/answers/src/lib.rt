@@ -12,23 +12,25 @@ ghost use Rattle.lines.specs.Room.{line_bytes};
 ghost use Rattle.answers.specs.SplitLines.{printed, split_line};
 ghost use Rattle.answers.specs.LentLines.{lent_lines};
 
-use plane::{Stated, StatedSheet};
-use utils::Split;
+use model::Refusal;
+use plane::Stated;
+use utils::Rewritten;
 
 // What the split answered.
-fn put_split(out: &mut [u8], at: usize, text: &[u8], scratch: &[u8], s: Split) -> usize
+fn put_split(
+    out: &mut [u8],
+    at: usize,
+    text: &[u8],
+    scratch: &[u8],
+    s: Result<Option<Rewritten>, Refusal>,
+) -> usize
     requires { (at + line_bytes ≤ length out.old) × (length text.now ≤ text_bytes) × (length scratch.now ≤ text_bytes) × Places s text.now scratch.now }
     ensures { Written out.old out.new at (printed (answered s text.now scratch.now)) line_bytes result }
 {
     match s {
-        Split::Own => print::put_word(out, at, b"own\n"),
-        Split::Rewritten(n, from, to) => print::put_values(
-            out,
-            at,
-            &scratch[0..n],
-            &text[from..to],
-        ),
-        Split::NotSplit(r) => print::put_refusal(out, at, r),
+        Ok(None) => print::put_word(out, at, b"own\n"),
+        Ok(Some(r)) => print::put_values(out, at, &scratch[0..r.bytes], &text[r.from..r.to]),
+        Err(r) => print::put_refusal(out, at, r),
     }
 }
 
@@ -51,8 +53,8 @@ fn put_stated(out: &mut [u8], at: usize, s: Stated, upright: &[u32]) -> usize
     plane_lines::put_upright(
         out,
         at,
-        model::orientation_number(orientation),
-        model::policy_number(policy),
+        u32::from(orientation),
+        u32::from(policy),
         s.rules,
         upright,
         s.rows,
@@ -87,7 +89,7 @@ pub fn put_upright_sheet(
         &mut spans,
         &mut upright,
     ) {
-        StatedSheet::Upright(s) => put_stated(out, at, s, &upright),
-        StatedSheet::NotStated(r) => print::put_refusal(out, at, r),
+        Ok(s) => put_stated(out, at, s, &upright),
+        Err(r) => print::put_refusal(out, at, r),
     }
 }

@@ -97,10 +97,8 @@ fn body_row(
     ensures bodies_after { bodies.new ≡ turns (store_at (λ k. base + k) (λ k. body_code top y (get_or thins.now (base + k) 0))) n bodies.old }
     ensures grid_after { grid.new ≡ turns (store_at (λ k. base + k) (λ k. shaded_code top y)) n grid.old }
 {
-    let mut k = 0;
-    while k < n {
+    for k in 0..n {
         body_at(text, thins, bodies, grid, base + k, top, y);
-        k += 1;
     }
 }
 
@@ -122,9 +120,7 @@ pub fn make_body(
     let top = r.top;
     let bottom = r.bottom;
     let n = r.right - left;
-    let mut y = 0;
-    while y < bottom {
+    for y in 0..bottom {
         body_row(text, thins, bodies, grid, y * width + left, n, top, y);
-        y += 1;
     }
 }

@@ -5,8 +5,7 @@ ghost use Rattle.std.specs.Prelude.{[], ◌∷◌, ◌≡◌};
 ghost use Rattle.room.specs.Room.{Roomy};
 ghost use Rattle.builder.specs.SheetEnd.{sheet_sizes, sheet_end};
 
-use records::Outcome;
-use room::WorkSlices;
+use model::Refusal;
 
 // The least lengths of the work slices, in the order in which they are lent.
 const SHEET_SIZES: [usize; 6] = [15360, 15360, 15360, 15360, 2048, 61444];
@@ -21,14 +20,14 @@ fn sheet_cleared(
     spans: &mut [u32],
     bytes: &mut [u8],
     out: &mut [u8],
-) -> Outcome
+) -> Result<usize, Refusal>
     requires { Roomy (text.old ∷ thins.old ∷ bodies.old ∷ grid.old ∷ spans.old ∷ bytes.old ∷ []) sheet_sizes }
     ensures end { sheet_end s.now (text.old ∷ thins.old ∷ bodies.old ∷ grid.old ∷ spans.old ∷ bytes.old ∷ []) out.old ≡ record { outcome = result; works = text.new ∷ thins.new ∷ bodies.new ∷ grid.new ∷ spans.new ∷ bytes.new ∷ []; out = out.new } }
 {
     let r = drawn_records::sheet_record(s, text, thins, bodies, grid, spans, bytes, out);
     ends::clear_four(text, thins, bodies, grid);
-    lists::clear_u32(spans);
-    lists::clear_u8(bytes);
+    lists::fill(spans, 0);
+    lists::fill(bytes, 0);
     r
 }
 
@@ -42,7 +41,7 @@ pub fn read_sheet(
     spans: &mut [u32],
     bytes: &mut [u8],
     out: &mut [u8],
-) -> Outcome
+) -> Result<usize, Refusal>
     ensures end { sheet_end s.now (text.old ∷ thins.old ∷ bodies.old ∷ grid.old ∷ spans.old ∷ bytes.old ∷ []) out.old ≡ record { outcome = result; works = text.new ∷ thins.new ∷ bodies.new ∷ grid.new ∷ spans.new ∷ bytes.new ∷ []; out = out.new } }
 {
     let lens = [
@@ -54,8 +53,6 @@ pub fn read_sheet(
         bytes.len(),
     ];
     let sizes = SHEET_SIZES;
-    match room::work_slices(&lens, &sizes) {
-        WorkSlices::Enough => sheet_cleared(s, text, thins, bodies, grid, spans, bytes, out),
-        WorkSlices::Short(r) => Outcome::Refused(r),
-    }
+    room::work_slices(&lens, &sizes)?;
+    sheet_cleared(s, text, thins, bodies, grid, spans, bytes, out)
 }

@@ -1,6 +1,5 @@
 -- What drawing a sheet answers, and what it leaves in the layers.
-use Rattle.std.specs.Prelude.{List, ◌≡◌, ℕ, ◌≤◌, length, drop}
-use Rattle.lists.specs.Answer.{ok, refused}
+use Rattle.std.specs.Prelude.{List, ◌≡◌, ℕ, ◌≤◌, length, drop, Ok, Err}
 use Rattle.lists.specs.Picture.{canvas}
 use Rattle.model.specs.Limits.{canvas_size}
 use Rattle.model.specs.Refusals.{Reading}
@@ -11,12 +10,11 @@ use Rattle.sheet_rows.specs.Sheet.{rest_of}
 use Rattle.utf8.specs.Utf8.{codes}
 use Rattle.canvas.specs.Layers.{text_layer, thin_layer, body_layer, grid_layer}
 use Rattle.canvas.specs.declared.Drawing.{Drawing}
-use Rattle.canvas.specs.declared.Drawing.TheVariants.{Drawn, NotDrawn}
 
 -- an answer's outline
-abbrev pub outline_in : Drawing → Reading Outline
-outline_in (Drawn height width end o) = ok o
-outline_in (NotDrawn r) = refused r
+abbrev pub outline_in : Reading Drawing → Reading Outline
+outline_in (Ok d) = Ok d.outline
+outline_in (Err r) = Err r
 
 -- four slices show the layers of some rows
 pub record Shown (rs : List (List ℕ)) (height width : ℕ) (r : Rect) (t m b g : List ℕ) : Type 0 where
@@ -28,14 +26,14 @@ pub record Shown (rs : List (List ℕ)) (height width : ℕ) (r : Rect) (t m b g
   pub grid : canvas width height g ≡ grid_layer rs r
 
 -- what an answer says of the slices
-abbrev pub LayersIn : Drawing → List (List ℕ) → List ℕ → List ℕ → List ℕ → List ℕ → Type 0
-LayersIn (Drawn height width end o) rs t m b g = Shown rs height width o.body t m b g
-LayersIn (NotDrawn r) rs t m b g = Unit {0}
+abbrev pub LayersIn : Reading Drawing → List (List ℕ) → List ℕ → List ℕ → List ℕ → List ℕ → Type 0
+LayersIn (Ok d) rs t m b g = Shown rs d.rows d.columns d.outline.body t m b g
+LayersIn (Err r) rs t m b g = Unit {0}
 
 -- an answer's end: the bytes from there on are those behind the sheet
-abbrev pub Ended : Drawing → List ℕ → ℕ → Type 0
-Ended (Drawn height width end o) s at = (end ≤ length s) × (codes (drop end s) ≡ rest_of (codes (drop at s)))
-Ended (NotDrawn r) s at = Unit {0}
+abbrev pub Ended : Reading Drawing → List ℕ → ℕ → Type 0
+Ended (Ok d) s at = (d.end ≤ length s) × (codes (drop d.end s) ≡ rest_of (codes (drop at s)))
+Ended (Err r) s at = Unit {0}
 
 -- slices for the layers of the largest canvas
 pub record Room (t m b g : List ℕ) : Type 0 where

@@ -1,6 +1,6 @@
 -- The layers of the rows of a sheet, as pictures: document 01, "Canvas".
-use Rattle.std.specs.Prelude.{List, map, ℕ, length}
-use Rattle.lists.specs.Answer.{refused, ◌>>=◌}
+use Rattle.std.specs.Prelude.{List, map, ℕ, length, Err}
+use Rattle.lists.specs.Answer.{◌>>=◌}
 use Rattle.lists.specs.Picture.{Picture, canvas}
 use Rattle.model.specs.Refusals.{Reading}
 use Rattle.model.specs.declared.Rect.{Rect}
@@ -40,7 +40,7 @@ drawing_by find rs = do
 
 -- the outline of the first sheet in some bytes: number 1 comes first, wherever the ill-formed bytes stand
 unfoldable pub sheet_by : FrameFinder → List ℕ → Reading Outline
-sheet_by find s = on_text (checked s) (λ at. refused (InvalidUtf8 at)) (drawing_by find (rows_at s 0))
+sheet_by find s = on_text (checked s) (λ at. Err (InvalidUtf8 at)) (drawing_by find (rows_at s 0))
 
 -- the same by walks
 abbrev pub drawing_of : List (List ℕ) → Reading Outline

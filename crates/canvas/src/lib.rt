@@ -13,15 +13,15 @@ ghost use Rattle.canvas.specs.Layers.{sheet_of};
 ghost use Rattle.canvas.specs.Drawn.{outline_in, LayersIn, Ended, Room};
 
 use model::{Rect, Refusal};
-use outline::{Outline, Outlined};
-use scan::Scanned;
-use utf8::Checked;
+use outline::Outline;
 
-// The canvas's rows and columns, where the text behind the sheet starts, and the outline; or a refusal.
+// A canvas's rows and columns, where the text behind the sheet starts, and the outline.
 #[derive(Clone, Copy)]
-pub enum Drawing {
-    Drawn(usize, usize, usize, Outline),
-    NotDrawn(Refusal),
+pub struct Drawing {
+    pub rows: usize,
+    pub columns: usize,
+    pub end: usize,
+    pub outline: Outline,
 }
 
 // THIN of TEXT, BODY of THIN, GRID of BODY.
@@ -45,12 +45,12 @@ fn make_layers(
 }
 
 // A refusal of a text, which number 1 comes before.
-fn behind_utf8(c: Checked, r: Refusal) -> Refusal
+fn behind_utf8(c: Result<(), usize>, r: Refusal) -> Refusal
     ensures { result ≡ on_text c Refusal.InvalidUtf8 r }
 {
     match c {
-        Checked::Valid => r,
-        Checked::Invalid(at) => Refusal::InvalidUtf8(at),
+        Ok(()) => r,
+        Err(at) => Refusal::InvalidUtf8(at),
     }
 }
 
@@ -61,23 +61,23 @@ pub fn draw_sheet(
     thins: &mut [u32],
     bodies: &mut [u32],
     grid: &mut [u32],
-) -> Drawing
+) -> Result<Drawing, Refusal>
     requires { Room text.old thins.old bodies.old grid.old }
     ensures answer { outline_in result ≡ sheet_of s.now }
     ensures layers { LayersIn result (rows_at s.now 0) text.new thins.new bodies.new grid.new }
     ensures end { Ended result s.now 0 }
 {
-    match scan::scan(s, 0, text, bodies) {
-        Scanned::Canvas(rows, columns, end, valid) => match line_checks::validate_lines(s, valid) {
-            Checked::Valid => match outline::recognize_outline(text, columns, rows) {
-                Outlined::Table(o) => {
-                    make_layers(text, thins, bodies, grid, columns, rows, o.body);
-                    Drawing::Drawn(rows, columns, end, o)
-                }
-                Outlined::NotOutlined(r) => Drawing::NotDrawn(r),
-            },
-            Checked::Invalid(at) => Drawing::NotDrawn(Refusal::InvalidUtf8(at)),
-        },
-        Scanned::NotScanned(r) => Drawing::NotDrawn(behind_utf8(code_points::validate(s), r)),
-    }
+    let c = match scan::scan(s, 0, text, bodies) {
+        Ok(c) => c,
+        Err(r) => return Err(behind_utf8(code_points::validate(s), r)),
+    };
+    line_checks::validate_lines(s, c.valid).map_err(Refusal::InvalidUtf8)?;
+    let outline = outline::recognize_outline(text, c.columns, c.rows)?;
+    make_layers(text, thins, bodies, grid, c.columns, c.rows, outline.body);
+    Ok(Drawing {
+        rows: c.rows,
+        columns: c.columns,
+        end: c.end,
+        outline,
+    })
 }

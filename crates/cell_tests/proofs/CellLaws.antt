@@ -1,12 +1,11 @@
 -- The cells of a sheet in a slice, and their regions.
+use Rattle.std.specs.Prelude.{Ok, Err, Option}
 use mathlib.Core.Path.{◌≡◌, ap, ◌∙◌}
 use mathlib.Core.List.{List, []}
-use mathlib.Core.Option.{Option}
 use Prim.Native.Nat.{ℕ, ◌≤◌, ◌<◌}
 use native.Mathlib.Omega.{arith}
 use lib.ListN.{length, get_or}
 use borrow.Author.Tests.{lt-ltb, le-ltb}
-use Rattle.lists.specs.Answer.{ok, refused}
 use Rattle.lists.specs.Choose.{on_some}
 use Rattle.lists.proofs.RunLaws.{get_or-build, get_or_run_out}
 use Rattle.model.specs.Cells.{region_of}
@@ -33,15 +32,15 @@ module _ (d : List ℕ) (rows y x : ℕ) where
   unfolding cells_in
   cell_in_lem h k = ap (λ (r : List Cell). get_or r x (Region 0)) (row_in_lem h) ∙ get_or-build (get_or d y 0) (cell_at d y) x (Region 0) k
 
-  pub region_below : rows ≤ y → refused (CellOutOfRange y x) ≡ region_at (plane_in d rows) y x
+  pub region_below : rows ≤ y → Err (CellOutOfRange y x) ≡ region_at (plane_in d rows) y x
   unfolding region_at
   region_below h = rw (width-out h, le-ltb x 0 (omega arith))
 
-  pub region-right : y < rows → get_or d y 0 ≤ x → refused (CellOutOfRange y x) ≡ region_at (plane_in d rows) y x
+  pub region-right : y < rows → get_or d y 0 ≤ x → Err (CellOutOfRange y x) ≡ region_at (plane_in d rows) y x
   unfolding region_at
   region-right h k = rw (width_in h, le-ltb x (get_or d y 0) k)
 
   pub region-by : (o : Option ℕ) → y < rows → x < get_or d y 0 → region_of (cell_at d y x) ≡ o
-      → on_some o ok (refused (CellNotRegion y x)) ≡ region_at (plane_in d rows) y x
+      → on_some o Ok (Err (CellNotRegion y x)) ≡ region_at (plane_in d rows) y x
   unfolding region_at
   region-by o h k e = rw (width_in h, lt-ltb x (get_or d y 0) k, cell_in_lem h k, e)

@@ -1,3 +1,2 @@
 pub mod Readings
 pub mod SheetCells
-pub mod Told

@@ -1,6 +1,6 @@
 -- The cells of an upright sheet, as the clause rules read them: `recognize_horizontal_table` and plane.rs of the Rust.
-use Rattle.std.specs.Prelude.{Bool, not, [], ℕ, ◌+◌, eqb, ltb, length, get_or}
-use Rattle.lists.specs.Answer.{ok, refused, ◌>>=◌}
+use Rattle.std.specs.Prelude.{Bool, not, [], ℕ, ◌+◌, eqb, ltb, length, get_or, Ok, Err}
+use Rattle.lists.specs.Answer.{◌>>=◌}
 use Rattle.lists.specs.Choose.{choose, on_some}
 use Rattle.model.specs.Cells.{region_of}
 use Rattle.model.specs.Refusals.{Reading}
@@ -21,14 +21,14 @@ cell_in P y x = get_or (get_or P y []) x (Region 0)
 -- the region of the cell in row y, column x: 18 where there is no cell, 19 where it is no region
 unfoldable pub region_at : Plane → ℕ → ℕ → Reading ℕ
 region_at P y x =
-    choose (ltb x (width_of P y)) (on_some (region_of (cell_in P y x)) ok (refused (CellNotRegion y x))) (refused (CellOutOfRange y x))
+    choose (ltb x (width_of P y)) (on_some (region_of (cell_in P y x)) Ok (Err (CellNotRegion y x))) (Err (CellOutOfRange y x))
 
 -- in column x the cells of rows top and top + 1 are of one region (joined), or of two (not joined); the upper one is read first
 unfoldable pub column_is : Bool → Plane → ℕ → ℕ → Reading Bool
 column_is joined P top x = do
   a ← region_at P top x
   b ← region_at P (top + 1) x
-  ok (choose joined (eqb a b) (not (eqb a b)))
+  Ok (choose joined (eqb a b) (not (eqb a b)))
 
 -- so in each of the n columns from x on
 abbrev pub columns_are : Bool → Plane → ℕ → ℕ → ℕ → Reading Bool

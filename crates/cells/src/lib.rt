@@ -16,7 +16,7 @@ pub fn cell_at(plane: &[u32], row: usize, i: usize) -> Cell
     ensures cell { result ≡ cell_at plane.now row i }
     ensures small { Small result }
 {
-    model::cell_of(plane[PLANE_ROWS + row * PLANE_CELLS + i])
+    Cell::from(plane[PLANE_ROWS + row * PLANE_CELLS + i])
 }
 
 // Puts a cell behind the first i of a row.
@@ -25,7 +25,7 @@ pub fn put_cell(plane: &mut [u32], row: usize, i: usize, c: Cell)
     ensures cells { cells_in plane.new row (i + 1) ≡ cells_in plane.old row i ++ (c ∷ []) }
     ensures before { KeptBefore plane.old plane.new row }
 {
-    plane[PLANE_ROWS + row * PLANE_CELLS + i] = model::cell_number(c);
+    plane[PLANE_ROWS + row * PLANE_CELLS + i] = c.number();
 }
 
 // The first n cells of the row behind a plane become its next row.

@@ -1,14 +1,14 @@
 -- The clause rules taken apart: all their refusals with where everything stands, and then what is found there.
+use Rattle.std.specs.Prelude.{Ok, Err, Option, None, Some}
 use mathlib.Core.Bool.{Bool, true, false, not}
 use mathlib.Core.List.{List, [], ◌∷◌}
-use mathlib.Core.Option.{Option, none, some}
 use mathlib.Core.Path.{◌≡◌, refl, sym, ap, ◌∙◌}
 use Prim.Native.Nat.{ℕ, ◌+◌, ◌-◌}
 use native.Mathlib.Nat.{sub_self}
 use lib.Dec.{eqb, ltb}
 use lib.ListN.{length}
 use borrow.Author.Tests.{eqb-true}
-use Rattle.lists.specs.Answer.{ok, refused, ◌>>=◌}
+use Rattle.lists.specs.Answer.{◌>>=◌}
 use Rattle.lists.specs.Choose.{choose}
 use Rattle.lists.specs.Run.{run}
 use Rattle.lists.proofs.AnswerLaws.{refused-ok}
@@ -21,7 +21,7 @@ use Rattle.cell_tests.specs.Readings.{refuse}
 use Rattle.cell_tests.specs.SheetCells.{width_of, region_at, column_is}
 use Rattle.allowed.specs.Allowed.{allowed_of}
 use Rattle.clauses.specs.Readings.{along}
-use Rattle.clauses.specs.SheetCells.{Place}
+use Rattle.clauses.specs.declared.Place.{Place}
 use Rattle.clauses.specs.Clauses.{main_of, outputs_end, present, OutputTexts, NoteTexts, Found, text_at, optional_at, entries_of, one_output, many_outputs, outputs_of, notes_of, found_from}
 use Rattle.passes.specs.Passes.{fine, fine_row, fine_rows}
 use Rattle.layouts.specs.Layouts.{one_layout, named_layout, labelled_layout, many_layout, layout_of}
@@ -34,12 +34,12 @@ use Rattle.clauses.proofs.ReadingsApart.{Apart, after, same, way, joined, along_
 
 -- a reading of a cell, and a text made of it
 cell_apart : {A : Type 0} (m : Reading ℕ) (text : ℕ → List ℕ) (g : List ℕ → A)
-    → Apart (◌>>=◌ m (λ r. ok (g (text r)))) (◌>>=◌ m (λ _. ok (tt {0}))) (λ _. g (read_or m text []))
-cell_apart (ok r) text g = refl
-cell_apart (refused r) text g = refl
+    → Apart (◌>>=◌ m (λ r. Ok (g (text r)))) (◌>>=◌ m (λ _. Ok (tt {0}))) (λ _. g (read_or m text []))
+cell_apart (Ok r) text g = refl
+cell_apart (Err r) text g = refl
 
 -- three clause rows, where they are not refused and neither one nor two
-three_rows : (P : Plane) (n m h : ℕ) (t : Bool) → allowed_of P n m h ≡ ok t → eqb h 1 ≡ false → eqb h 2 ≡ false → h ≡ 3
+three_rows : (P : Plane) (n m h : ℕ) (t : Bool) → allowed_of P n m h ≡ Ok t → eqb h 1 ≡ false → eqb h 2 ≡ false → h ≡ 3
 unfolding allowed_of
 three_rows P n m h t e f f' =
     by_flag (eqb h 3) (eqb-true h 3) (λ z. refused-ok (rw (f, f', z) at e))
@@ -79,7 +79,7 @@ module _ (text : ℕ → List ℕ) (P : Plane) where
   abbrev pub outputs_as : ℕ → ℕ → ℕ → Layout → OutputTexts
   outputs_as x m h l =
       record {
-        label = choose l.labelled (opt 0 x) none;
+        label = choose l.labelled (opt 0 x) None;
         names = choose l.named (run (opt (choose l.valued (h - 2) (h - 1))) x m) [];
         values = choose l.valued (run (opt (h - 1)) x m) [];
       }
@@ -87,14 +87,14 @@ module _ (text : ℕ → List ℕ) (P : Plane) where
   -- one output under two clause rows, by the two regions
   boxes_apart : (x m h : ℕ) → m ≡ 1 → h ≡ 2 → (r s : Reading ℕ) → region_at P 0 x ≡ r → region_at P 1 x ≡ s
       → Apart
-      (◌>>=◌ r (λ a. ◌>>=◌ s (λ b. ◌>>=◌ (choose (eqb a b) (ok none) (◌>>=◌ r (λ c. ok (present (text c)))))
-      (λ l. ◌>>=◌ (◌>>=◌ s (λ c. ok (present (text c)))) (λ v. ok (record { label = l; names = []; values = v ∷ [] }))))))
-      (◌>>=◌ (◌>>=◌ r (λ a. ◌>>=◌ s (λ b. ok (not (eqb a b))))) (λ apart. ok (record { labelled = apart; named = false; valued = true })))
+      (◌>>=◌ r (λ a. ◌>>=◌ s (λ b. ◌>>=◌ (choose (eqb a b) (Ok None) (◌>>=◌ r (λ c. Ok (present (text c)))))
+      (λ l. ◌>>=◌ (◌>>=◌ s (λ c. Ok (present (text c)))) (λ v. Ok (record { label = l; names = []; values = v ∷ [] }))))))
+      (◌>>=◌ (◌>>=◌ r (λ a. ◌>>=◌ s (λ b. Ok (not (eqb a b))))) (λ apart. Ok (record { labelled = apart; named = false; valued = true })))
       (outputs_as x m h)
   unfolding run
-  boxes_apart x m h em eh (refused e) s er es = refl
-  boxes_apart x m h em eh (ok a) (refused e) er es = refl
-  boxes_apart x m h em eh (ok a) (ok b) er es = rw (em, eh, er, es) (by_flag (eqb a b) (λ t. rw t) (λ t. rw t))
+  boxes_apart x m h em eh (Err e) s er es = refl
+  boxes_apart x m h em eh (Ok a) (Err e) er es = refl
+  boxes_apart x m h em eh (Ok a) (Ok b) er es = rw (em, eh, er, es) (by_flag (eqb a b) (λ t. rw t) (λ t. rw t))
 
   -- a text that may be absent, or a row of them, read first
   module _ (x m h : ℕ) (l : Unit {0} → Reading Layout) where
@@ -138,8 +138,8 @@ module _ (text : ℕ → List ℕ) (P : Plane) where
 
   notes_apart : (q : Option Place) → Apart (notes_of text P q) (notes_at P q) notes_as
   unfolding notes_of notes_at run
-  notes_apart none = rw (sub_self (length P))
-  notes_apart (some q) =
+  notes_apart None = rw (sub_self (length P))
+  notes_apart (Some q) =
       let n = width_of P 0 - (q.col + 1) in
       same (refuse (not (ltb q.col (width_of P 0))) PlaneMalformed) _ _ notes_as (λ _ _.
       after _ (fine_row P 0 (q.col + 1) n) (λ _. run (cell 0) (q.col + 1) n) _ _ notes_as (texts_apart 0 (q.col + 1) n) (λ _ _.
@@ -164,24 +164,24 @@ module _ (text : ℕ → List ℕ) (P : Plane) where
         annotation_entries = (notes_as s.notes).entries;
       }
 
-  values_apart : (t : Bool) (y n : ℕ) → Apart (choose t (along (optional_at text P y) 0 n) (ok [])) (choose t (fine_row P y 0 n) (ok tt)) (λ _. choose t (run (opt y) 0 n) [])
+  values_apart : (t : Bool) (y n : ℕ) → Apart (choose t (along (optional_at text P y) 0 n) (Ok [])) (choose t (fine_row P y 0 n) (Ok tt)) (λ _. choose t (run (opt y) 0 n) [])
   values_apart true y n = optionals_apart y 0 n
   values_apart false y n = refl
 
   -- the inputs read first
   inputs-first : (n h : ℕ) (t : Bool) (k : List (List ℕ) → List Text → List (List (List ℕ)) → Reading Found) (m : Unit {0} → Reading Shape)
       → Apart (k (run (cell 0) 0 n) (choose t (run (opt (h - 1)) 0 n) []) (entries_as (h + 1) 0 n)) (m tt) found_as
-      → Apart (◌>>=◌ (along (text_at text P 0) 0 n) (λ x. ◌>>=◌ (choose t (along (optional_at text P (h - 1)) 0 n) (ok [])) (λ v. ◌>>=◌ (entries_of text P (h + 1) 0 n) (k x v))))
+      → Apart (◌>>=◌ (along (text_at text P 0) 0 n) (λ x. ◌>>=◌ (choose t (along (optional_at text P (h - 1)) 0 n) (Ok [])) (λ v. ◌>>=◌ (entries_of text P (h + 1) 0 n) (k x v))))
       (◌>>=◌ (inputs_fine P n h t) m) found_as
   unfolding inputs_fine
   inputs-first n h t k m e =
       after _ (fine_row P 0 0 n) (λ _. run (cell 0) 0 n) _ _ found_as (texts_apart 0 0 n) (λ _ _.
-      after _ (choose t (fine_row P (h - 1) 0 n) (ok tt)) (λ _. choose t (run (opt (h - 1)) 0 n) []) _ _ found_as (values_apart t (h - 1) n) (λ _ _.
+      after _ (choose t (fine_row P (h - 1) 0 n) (Ok tt)) (λ _. choose t (run (opt (h - 1)) 0 n) []) _ _ found_as (values_apart t (h - 1) n) (λ _ _.
       after _ (fine_rows P (h + 1) 0 n) (λ _. entries_as (h + 1) 0 n) _ m found_as (entries_apart (h + 1) 0 n) (λ _ _. e)))
-      ∙ ap (λ (r : Reading Shape). ◌>>=◌ r (λ s. ok (found_as s)))
-      (sym (joined (fine_row P 0 0 n) (choose t (fine_row P (h - 1) 0 n) (ok tt)) (fine_rows P (h + 1) 0 n) m))
+      ∙ ap (λ (r : Reading Shape). ◌>>=◌ r (λ s. Ok (found_as s)))
+      (sym (joined (fine_row P 0 0 n) (choose t (fine_row P (h - 1) 0 n) (Ok tt)) (fine_rows P (h + 1) 0 n) m))
 
-  pub found_apart : (main notes : Option Place) → found_from text P main notes ≡ ◌>>=◌ (shape_of P main notes) (λ s. ok (found_as s))
+  pub found_apart : (main notes : Option Place) → found_from text P main notes ≡ ◌>>=◌ (shape_of P main notes) (λ s. Ok (found_as s))
   unfolding found_from shape_of clauses_at found_as
   found_apart main notes =
       same (main_of main) _ _ found_as (λ p _.

@@ -1,9 +1,10 @@
 -- The clause rules as the code goes: the shape with every refusal, and then what is stated, with no further refusal.
+use Rattle.std.specs.Prelude.{Ok}
 use mathlib.Core.List.{List}
 use mathlib.Core.Path.{◌≡◌, refl}
 use Prim.Native.Nat.{ℕ, ◌<◌}
 use lib.ListN.{length}
-use Rattle.lists.specs.Answer.{ok, ◌>>=◌}
+use Rattle.lists.specs.Answer.{◌>>=◌}
 use Rattle.model.specs.declared.Cell.TheVariants.{MainDoubleCrossing, HorizontalDoubleCrossing}
 use Rattle.cells.specs.Plane.{Plane}
 use Rattle.clauses.specs.SheetCells.{place_of}
@@ -15,7 +16,7 @@ use Rattle.clauses.proofs.Apart.{found_as, found_apart}
 use Rattle.clauses.proofs.OnlyTwoSizes.{only_two_sizes}
 
 pub clauses_apart : (text : ℕ → List ℕ) (P : Plane) (rules : ℕ) → 0 < rules
-    → clauses_of text P rules ≡ ◌>>=◌ (checked_shape P rules) (λ s. ok (stated_by (found_as text P s) rules))
+    → clauses_of text P rules ≡ ◌>>=◌ (checked_shape P rules) (λ s. Ok (stated_by (found_as text P s) rules))
 unfolding clauses_of checked_shape
 clauses_apart text P rules r =
     let main = place_of MainDoubleCrossing P in

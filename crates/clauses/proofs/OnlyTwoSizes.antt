@@ -1,14 +1,14 @@
 -- Of the thirteen checks of the sizes only two can fail, 8 and 12.
+use Rattle.std.specs.Prelude.{Ok, Option}
 use mathlib.Core.Bool.{Bool, true, false, not, ◌&&◌}
 use mathlib.Core.List.{List, []}
-use mathlib.Core.Option.{Option}
 use mathlib.Core.Path.{◌≡◌, refl, sym, subst}
 use Prim.Native.Nat.{ℕ, zero, suc, ◌+◌, ◌-◌, ◌<◌}
 use native.Mathlib.Omega.{arith}
 use lib.Dec.{eqb, ltb}
 use lib.ListN.{length}
 use borrow.Author.Tests.{eqb-true, eq-eqb, ne_eqb, lt-ltb, eqb-false}
-use Rattle.lists.specs.Answer.{ok, ◌>>=◌}
+use Rattle.lists.specs.Answer.{◌>>=◌}
 use Rattle.lists.specs.Choose.{choose}
 use Rattle.lists.specs.Run.{run}
 use Rattle.lists.proofs.AnswerLaws.{refused-ok, then_ok}
@@ -19,7 +19,7 @@ use Rattle.cells.specs.Plane.{Plane}
 use Rattle.cell_tests.specs.Readings.{refuse}
 use Rattle.cell_tests.specs.SheetCells.{column_is}
 use Rattle.allowed.specs.Allowed.{allowed_of}
-use Rattle.clauses.specs.SheetCells.{Place}
+use Rattle.clauses.specs.declared.Place.{Place}
 use Rattle.clauses.specs.Sizes.{differ, uneven, sized}
 use Rattle.clauses.specs.Clauses.{main_of, outputs_end}
 use Rattle.passes.specs.Passes.{fine, fine_row, fine_rows}
@@ -33,12 +33,12 @@ use Rattle.clauses.proofs.Apart.{found_as}
 -- whatever a reading answers has a property
 module _ {B : Type 0} (Q : B → Type 0) where
   abbrev Tells : Reading B → Type 0
-  Tells m = (b : B) → m ≡ ok b → Q b
+  Tells m = (b : B) → m ≡ Ok b → Q b
 
-  tells : (a : B) → Q a → Tells (ok a)
+  tells : (a : B) → Q a → Tells (Ok a)
   tells a q b e = let z : a ≡ b = cc in subst Q z q
 
-  tells_after : {A : Type 0} (m : Reading A) (k : A → Reading B) → ((a : A) → m ≡ ok a → Tells (k a)) → Tells (◌>>=◌ m k)
+  tells_after : {A : Type 0} (m : Reading A) (k : A → Reading B) → ((a : A) → m ≡ Ok a → Tells (k a)) → Tells (◌>>=◌ m k)
   tells_after m k h b e = let t = then_ok m k b e in h t.0 t.1 b t.2
 
   tells_if : (t : Bool) (m m' : Reading B) → (t ≡ true → Tells m) → (t ≡ false → Tells m') → Tells (choose t m m')
@@ -57,10 +57,10 @@ several m e f =
 
 -- one pass or two, and then a layout
 module _ (m : ℕ) where
-  laid_1 : (l : Layout) → Laid m l → (a : Reading (Unit {0})) → Tells (Laid m) (◌>>=◌ a (λ _. ok l))
+  laid_1 : (l : Layout) → Laid m l → (a : Reading (Unit {0})) → Tells (Laid m) (◌>>=◌ a (λ _. Ok l))
   laid_1 l q a = tells_after (Laid m) a _ (λ _ _. tells (Laid m) l q)
 
-  laid_2 : (l : Layout) → Laid m l → (a b : Reading (Unit {0})) → Tells (Laid m) (◌>>=◌ a (λ _. ◌>>=◌ b (λ _. ok l)))
+  laid_2 : (l : Layout) → Laid m l → (a b : Reading (Unit {0})) → Tells (Laid m) (◌>>=◌ a (λ _. ◌>>=◌ b (λ _. Ok l)))
   laid_2 l q a b = tells_after (Laid m) a _ (λ _ _. laid_1 l q b)
 
 module _ (P : Plane) (x m h : ℕ) where
@@ -132,13 +132,13 @@ even_rows f x n y zero = refl
 even_rows f x n y (suc r) = rw (length_run (f y) x n, eq-eqb n n refl) (even_rows f x n (suc y) r)
 
 -- check 10 is check 8 again
-twice : (t u : Bool) → ◌>>=◌ (refuse t (InvalidSize 8)) (λ _. ◌>>=◌ (refuse t (InvalidSize 10)) (λ _. ◌>>=◌ (refuse u (InvalidSize 12)) (λ _. ok (tt {0}))))
+twice : (t u : Bool) → ◌>>=◌ (refuse t (InvalidSize 8)) (λ _. ◌>>=◌ (refuse t (InvalidSize 10)) (λ _. ◌>>=◌ (refuse u (InvalidSize 12)) (λ _. Ok (tt {0}))))
     ≡ ◌>>=◌ (refuse t (InvalidSize 8)) (λ _. refuse u (InvalidSize 12))
 twice true u = refl
 twice false true = refl
 twice false false = refl
 
-pub only_two_sizes : (text : ℕ → List ℕ) (P : Plane) (main notes : Option Place) (s : Shape) → shape_of P main notes ≡ ok s
+pub only_two_sizes : (text : ℕ → List ℕ) (P : Plane) (main notes : Option Place) (s : Shape) → shape_of P main notes ≡ Ok s
     → (rules : ℕ) → 0 < rules → sized rules (found_as text P s) ≡ sizes_of (length P) rules s
 unfolding sized sizes_of found_as
 only_two_sizes text P main notes s e rules r =

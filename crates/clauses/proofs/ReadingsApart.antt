@@ -1,8 +1,9 @@
 -- Readings taken apart: the refusals of a reading, and then a value.
+use Rattle.std.specs.Prelude.{Ok, Err}
 use mathlib.Core.Bool.{Bool, true, false}
 use mathlib.Core.Path.{◌≡◌, refl}
 use Prim.Native.Nat.{ℕ, zero, suc}
-use Rattle.lists.specs.Answer.{ok, refused, ◌>>=◌}
+use Rattle.lists.specs.Answer.{◌>>=◌}
 use Rattle.lists.specs.Choose.{choose}
 use Rattle.lists.specs.Run.{run}
 use Rattle.model.specs.Refusals.{Reading}
@@ -11,25 +12,25 @@ use Rattle.clauses.specs.Readings.{along}
 
 -- a refuses what c refuses, and answers v of what c answers
 abbrev pub Apart : {A B : Type 0} → Reading A → Reading B → (B → A) → Type 0
-Apart a c v = a ≡ ◌>>=◌ c (λ b. ok (v b))
+Apart a c v = a ≡ ◌>>=◌ c (λ b. Ok (v b))
 
 -- a reading apart, and then what comes after it
 pub after : {A B C D : Type 0} (a : Reading A) (c : Reading B) (v : B → A) (k : A → Reading C) (l : B → Reading D) (w : D → C)
-    → Apart a c v → ((b : B) → c ≡ ok b → Apart (k (v b)) (l b) w) → Apart (◌>>=◌ a k) (◌>>=◌ c l) w
-after a (ok b) v k l w e h = rw e (h b refl)
-after a (refused r) v k l w e h = rw e
+    → Apart a c v → ((b : B) → c ≡ Ok b → Apart (k (v b)) (l b) w) → Apart (◌>>=◌ a k) (◌>>=◌ c l) w
+after a (Ok b) v k l w e h = rw e (h b refl)
+after a (Err r) v k l w e h = rw e
 
 -- the same reading first
 pub same : {A C D : Type 0} (a : Reading A) (k : A → Reading C) (l : A → Reading D) (w : D → C)
-    → ((b : A) → a ≡ ok b → Apart (k b) (l b) w) → Apart (◌>>=◌ a k) (◌>>=◌ a l) w
-same (ok b) k l w h = h b refl
-same (refused r) k l w h = refl
+    → ((b : A) → a ≡ Ok b → Apart (k b) (l b) w) → Apart (◌>>=◌ a k) (◌>>=◌ a l) w
+same (Ok b) k l w h = h b refl
+same (Err r) k l w h = refl
 
 -- the value changed
 pub changed : {A B C : Type 0} (a : Reading A) (c : Reading B) (v : B → A) (k : A → C) → Apart a c v
-    → Apart (◌>>=◌ a (λ x. ok (k x))) c (λ b. k (v b))
-changed a (ok b) v k e = rw e
-changed a (refused r) v k e = rw e
+    → Apart (◌>>=◌ a (λ x. Ok (k x))) c (λ b. k (v b))
+changed a (Ok b) v k e = rw e
+changed a (Err r) v k e = rw e
 
 -- two ways, by a test
 pub way : {A B : Type 0} (t : Bool) (a a' : Reading A) (c c' : Reading B) (v : B → A)
@@ -40,9 +41,9 @@ way false a a' c c' v p q = q refl
 -- three passes one after the other, before what follows them
 pub joined : {A : Type 0} (a b c : Reading (Unit {0})) (m : Unit {0} → Reading A)
     → ◌>>=◌ (◌>>=◌ a (λ _. ◌>>=◌ b (λ _. c))) m ≡ ◌>>=◌ a (λ _. ◌>>=◌ b (λ _. ◌>>=◌ c m))
-joined (ok x) (ok y) c m = refl
-joined (ok x) (refused r) c m = refl
-joined (refused r) b c m = refl
+joined (Ok x) (Ok y) c m = refl
+joined (Ok x) (Err r) c m = refl
+joined (Err r) b c m = refl
 
 -- place by place
 pub along_apart : {A : Type 0} (f : ℕ → Reading A) (c : ℕ → Reading (Unit {0})) (v : ℕ → A) → ((i : ℕ) → Apart (f i) (c i) (λ _. v i))

@@ -1,12 +1,11 @@
 -- Where everything stands on a sheet: one law for each way through a reading.
+use Rattle.std.specs.Prelude.{Ok, Err, Option, None, Some}
 use mathlib.Core.Path.{◌≡◌, refl, sym}
 use mathlib.Core.Bool.{Bool, true, false}
 use mathlib.Core.List.{List}
-use mathlib.Core.Option.{Option, none, some}
 use Prim.Native.Nat.{ℕ, ◌+◌, ◌-◌, ◌≤◌, ◌<◌}
 use native.Mathlib.Omega.{arith}
 use borrow.Author.Tests.{eq-eqb, ne_eqb, lt-ltb, le-ltb}
-use Rattle.lists.specs.Answer.{ok, refused}
 use Rattle.lists.specs.Choose.{choose}
 use Rattle.model.specs.Refusals.{Reading}
 use Rattle.model.specs.declared.Cell.TheVariants.{MainDoubleCrossing, HorizontalDoubleCrossing}
@@ -17,11 +16,11 @@ use Rattle.cells.proofs.PlaneLaws.{length-plane}
 use Rattle.cell_tests.specs.SheetCells.{width_of}
 use Rattle.allowed.specs.Allowed.{allowed_of}
 use Rattle.passes.specs.Passes.{fine_row, fine_rows}
-use Rattle.passes.specs.declared.Pass.TheVariants.{Clear, Stopped}
 use Rattle.layouts.specs.Layouts.{layout_of}
 use Rattle.layouts.specs.declared.Layout.{Layout}
 use Rattle.clauses.specs.Clauses.{outputs_end}
-use Rattle.clauses.specs.SheetCells.{Place, place_of}
+use Rattle.clauses.specs.declared.Place.{Place}
+use Rattle.clauses.specs.SheetCells.{place_of}
 use Rattle.clauses.specs.Shape.{notes_at, inputs_fine, clauses_at, shape_of, sizes_of, checked_shape}
 use Rattle.clauses.specs.Sizes.{differ}
 use Rattle.clauses.specs.Told.{ShapeFits}
@@ -29,45 +28,45 @@ use Rattle.clauses.specs.declared.Notes.{Notes}
 use Rattle.clauses.specs.declared.Shape.{Shape}
 
 -- the annotations behind a crossing; row 0 has w cells
-pub no_notes : (d : List ℕ) (rows : ℕ) → ok (record { count = 0; col = 0; row = rows }) ≡ notes_at (plane_in d rows) none
+pub no_notes : (d : List ℕ) (rows : ℕ) → Ok (record { count = 0; col = 0; row = rows }) ≡ notes_at (plane_in d rows) None
 unfolding notes_at
 no_notes d rows = rw (length-plane d rows)
 
 module _ (P : Plane) (y x w : ℕ) (q : w ≡ width_of P 0) where
   abbrev behind : Reading Notes
-  behind = notes_at P (some (record { row = y; col = x }))
+  behind = notes_at P (Some (record { row = y; col = x }))
 
-  pub notes_outside : w ≤ x → refused PlaneMalformed ≡ behind
+  pub notes_outside : w ≤ x → Err PlaneMalformed ≡ behind
   unfolding notes_at
   notes_outside h = rw (sym q, le-ltb x w h)
 
   module _ (h : x < w) where
-    pub notes-names : {r : Refusal} → refused r ≡ fine_row P 0 (x + 1) (w - (x + 1)) → refused r ≡ behind
+    pub notes-names : {r : Refusal} → Err r ≡ fine_row P 0 (x + 1) (w - (x + 1)) → Err r ≡ behind
     unfolding notes_at
     notes-names e = rw (sym q, lt-ltb x w h, sym e)
 
-    module _ (e : ok tt ≡ fine_row P 0 (x + 1) (w - (x + 1))) where
-      pub notes-rows : {r : Refusal} → refused r ≡ fine_rows P (y + 1) (x + 1) (w - (x + 1)) → refused r ≡ behind
+    module _ (e : Ok tt ≡ fine_row P 0 (x + 1) (w - (x + 1))) where
+      pub notes-rows : {r : Refusal} → Err r ≡ fine_rows P (y + 1) (x + 1) (w - (x + 1)) → Err r ≡ behind
       unfolding notes_at
       notes-rows f = rw (sym q, lt-ltb x w h, sym e, sym f)
 
-      pub notes_are : ok tt ≡ fine_rows P (y + 1) (x + 1) (w - (x + 1))
-          → ok (record { count = w - (x + 1); col = x + 1; row = y + 1 }) ≡ behind
+      pub notes_are : Ok tt ≡ fine_rows P (y + 1) (x + 1) (w - (x + 1))
+          → Ok (record { count = w - (x + 1); col = x + 1; row = y + 1 }) ≡ behind
       unfolding notes_at
       notes_are f = rw (sym q, lt-ltb x w h, sym e, sym f)
 
 -- the inputs
 module _ (P : Plane) (n h : ℕ) (v : Bool) where
-  pub inputs_stop : {r : Refusal} → refused r ≡ fine_row P 0 0 n → refused r ≡ inputs_fine P n h v
+  pub inputs_stop : {r : Refusal} → Err r ≡ fine_row P 0 0 n → Err r ≡ inputs_fine P n h v
   unfolding inputs_fine
   inputs_stop e = rw (sym e)
 
-  module _ (e : ok tt ≡ fine_row P 0 0 n) where
-    pub inputs-values : {r : Refusal} → refused r ≡ choose v (fine_row P (h - 1) 0 n) (ok tt) → refused r ≡ inputs_fine P n h v
+  module _ (e : Ok tt ≡ fine_row P 0 0 n) where
+    pub inputs-values : {r : Refusal} → Err r ≡ choose v (fine_row P (h - 1) 0 n) (Ok tt) → Err r ≡ inputs_fine P n h v
     unfolding inputs_fine
     inputs-values f = rw (sym e, sym f)
 
-    pub inputs-rows : ok tt ≡ choose v (fine_row P (h - 1) 0 n) (ok tt) → fine_rows P (h + 1) 0 n ≡ inputs_fine P n h v
+    pub inputs-rows : Ok tt ≡ choose v (fine_row P (h - 1) 0 n) (Ok tt) → fine_rows P (h + 1) 0 n ≡ inputs_fine P n h v
     unfolding inputs_fine
     inputs-rows f = rw (sym e, sym f)
 
@@ -76,73 +75,70 @@ module _ (P : Plane) (n m h : ℕ) (notes : Option Place) where
   abbrev here : Reading Shape
   here = clauses_at P n m h notes
 
-  pub at-allowed : {r : Refusal} → refused r ≡ allowed_of P n m h → refused r ≡ here
+  pub at-allowed : {r : Refusal} → Err r ≡ allowed_of P n m h → Err r ≡ here
   unfolding clauses_at
   at-allowed a = rw (sym a)
 
-  module _ {v : Bool} (a : ok v ≡ allowed_of P n m h) where
-    pub at-inputs : {r : Refusal} → refused r ≡ inputs_fine P n h v → refused r ≡ here
+  module _ {v : Bool} (a : Ok v ≡ allowed_of P n m h) where
+    pub at-inputs : {r : Refusal} → Err r ≡ inputs_fine P n h v → Err r ≡ here
     unfolding clauses_at
     at-inputs i = rw (sym a, sym i)
 
-    module _ (i : ok tt ≡ inputs_fine P n h v) where
-      pub at_layout : {r : Refusal} → refused r ≡ layout_of P (n + 1) m h v → refused r ≡ here
+    module _ (i : Ok tt ≡ inputs_fine P n h v) where
+      pub at_layout : {r : Refusal} → Err r ≡ layout_of P (n + 1) m h v → Err r ≡ here
       unfolding clauses_at
       at_layout e = rw (sym a, sym i, sym e)
 
-      module _ {l : Layout} (e : ok l ≡ layout_of P (n + 1) m h v) where
-        pub at-outputs : {r : Refusal} → refused r ≡ fine_rows P (h + 1) (n + 1) m → refused r ≡ here
+      module _ {l : Layout} (e : Ok l ≡ layout_of P (n + 1) m h v) where
+        pub at-outputs : {r : Refusal} → Err r ≡ fine_rows P (h + 1) (n + 1) m → Err r ≡ here
         unfolding clauses_at
         at-outputs o = rw (sym a, sym i, sym e, sym o)
 
-        module _ (o : ok tt ≡ fine_rows P (h + 1) (n + 1) m) where
-          pub at-notes : {r : Refusal} → refused r ≡ notes_at P notes → refused r ≡ here
+        module _ (o : Ok tt ≡ fine_rows P (h + 1) (n + 1) m) where
+          pub at-notes : {r : Refusal} → Err r ≡ notes_at P notes → Err r ≡ here
           unfolding clauses_at
           at-notes f = rw (sym a, sym i, sym e, sym o, sym f)
 
-          pub at_shape : {b : Notes} → ok b ≡ notes_at P notes
-              → ok (record { inputs = n; outputs = m; height = h; allowed = v; layout = l; notes = b }) ≡ here
+          pub at_shape : {b : Notes} → Ok b ≡ notes_at P notes
+              → Ok (record { inputs = n; outputs = m; height = h; allowed = v; layout = l; notes = b }) ≡ here
           unfolding clauses_at
           at_shape f = rw (sym a, sym i, sym e, sym o, sym f)
 
-pub no_main : (P : Plane) (notes : Option Place) → refused NoMainCrossing ≡ shape_of P none notes
+pub no_main : (P : Plane) (notes : Option Place) → Err NoMainCrossing ≡ shape_of P None notes
 unfolding shape_of
 no_main P notes = refl
 
 -- from a main crossing in row h, column n; the outputs end before column e
 module _ (P : Plane) (h n e : ℕ) (notes : Option Place) (q : e ≡ outputs_end P notes) where
-  pub shape_outside : e ≤ n → refused PlaneMalformed ≡ shape_of P (some (record { row = h; col = n })) notes
+  pub shape_outside : e ≤ n → Err PlaneMalformed ≡ shape_of P (Some (record { row = h; col = n })) notes
   unfolding shape_of
   shape_outside l = rw (sym q, le-ltb n e l)
 
-  pub shape_within : n < e → clauses_at P n (e - (n + 1)) h notes ≡ shape_of P (some (record { row = h; col = n })) notes
+  pub shape_within : n < e → clauses_at P n (e - (n + 1)) h notes ≡ shape_of P (Some (record { row = h; col = n })) notes
   unfolding shape_of
   shape_within l = rw (sym q, lt-ltb n e l)
 
 -- the two sizes
 module _ (rows rules : ℕ) (s : Shape) where
-  pub size-entries : (rows - (s.height + 1) ≡ rules → ⊥) → refused (InvalidSize 8) ≡ sizes_of rows rules s
+  pub size-entries : (rows - (s.height + 1) ≡ rules → ⊥) → Err (InvalidSize 8) ≡ sizes_of rows rules s
   unfolding sizes_of
   size-entries n = rw (ne_eqb (rows - (s.height + 1)) rules n)
 
   module _ (e : rows - (s.height + 1) ≡ rules) where
-    pub size-notes : 0 < s.notes.count → differ (rows - s.notes.row) rules ≡ true → refused (InvalidSize 12) ≡ sizes_of rows rules s
+    pub size-notes : 0 < s.notes.count → differ (rows - s.notes.row) rules ≡ true → Err (InvalidSize 12) ≡ sizes_of rows rules s
     unfolding sizes_of
     size-notes l n = rw (eq-eqb (rows - (s.height + 1)) rules e, lt-ltb 0 s.notes.count l, n)
 
-    pub sizes_noted : 0 < s.notes.count → differ (rows - s.notes.row) rules ≡ false → ok tt ≡ sizes_of rows rules s
+    pub sizes_noted : 0 < s.notes.count → differ (rows - s.notes.row) rules ≡ false → Ok tt ≡ sizes_of rows rules s
     unfolding sizes_of
     sizes_noted l f = rw (eq-eqb (rows - (s.height + 1)) rules e, lt-ltb 0 s.notes.count l, f)
 
-    pub sizes_bare : s.notes.count ≤ 0 → ok tt ≡ sizes_of rows rules s
+    pub sizes_bare : s.notes.count ≤ 0 → Ok tt ≡ sizes_of rows rules s
     unfolding sizes_of
     sizes_bare l = rw (eq-eqb (rows - (s.height + 1)) rules e, le-ltb 0 s.notes.count l)
 
     pub sizes_fit : ShapeFits s rows 0 → ShapeFits s rows rules
     sizes_fit f = record { columns = f.columns; behind = f.behind; height = omega (arith, f.height); notes = f.notes }
-
-pub stopped_clear : {A : Type 0} {r : Refusal} → Stopped r ≡ Clear → A
-stopped_clear e = let z : ◌≡◌ {A = ℕ} 0 1 = cc in absurd (omega arith)
 
 -- the whole sheet, from its two crossings
 module _ (d : List ℕ) (rows rules : ℕ) (main notes : Option Place) where
@@ -150,15 +146,15 @@ module _ (d : List ℕ) (rows rules : ℕ) (main notes : Option Place) where
   sheet = plane_in d rows
 
   module _ (a : main ≡ place_of MainDoubleCrossing sheet) (b : notes ≡ place_of HorizontalDoubleCrossing sheet) where
-    pub checked_shape_lem : {r : Refusal} → refused r ≡ shape_of sheet main notes → refused r ≡ checked_shape sheet rules
+    pub checked_shape_lem : {r : Refusal} → Err r ≡ shape_of sheet main notes → Err r ≡ checked_shape sheet rules
     unfolding checked_shape
     checked_shape_lem e = rw (sym a, sym b, sym e)
 
-    module _ {s : Shape} (e : ok s ≡ shape_of sheet main notes) where
-      pub checked-sizes : {r : Refusal} → refused r ≡ sizes_of rows rules s → refused r ≡ checked_shape sheet rules
+    module _ {s : Shape} (e : Ok s ≡ shape_of sheet main notes) where
+      pub checked-sizes : {r : Refusal} → Err r ≡ sizes_of rows rules s → Err r ≡ checked_shape sheet rules
       unfolding checked_shape
       checked-sizes f = rw (sym a, sym b, sym e, length-plane d rows, sym f)
 
-      pub checked_has : ok tt ≡ sizes_of rows rules s → ok s ≡ checked_shape sheet rules
+      pub checked_has : Ok tt ≡ sizes_of rows rules s → Ok s ≡ checked_shape sheet rules
       unfolding checked_shape
       checked_has f = rw (sym a, sym b, sym e, length-plane d rows, sym f)

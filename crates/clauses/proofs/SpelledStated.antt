@@ -1,14 +1,14 @@
 -- What a sheet states, spelled out by its shape: the texts in slot order, their counts, and an entry in each rule for each clause.
+use Rattle.std.specs.Prelude.{Ok, Err, None, Some}
 use mathlib.Core.Bool.{Bool, true, false}
 use mathlib.Core.List.{List, [], ◌∷◌, ◌++◌, map, append_assoc}
-use mathlib.Core.Option.{none, some}
 use mathlib.Core.Path.{◌≡◌, refl, ap, ◌∙◌}
 use Prim.Native.Nat.{ℕ, zero, suc, ◌+◌, ◌-◌, ◌<◌}
 use native.Mathlib.Omega.{arith}
 use lib.Dec.{eqb, ltb}
 use lib.ListN.{length, get_or, length-map}
 use borrow.Author.Tests.{eqb-true, not-false, lt-ltb, ltb-true, ltb-false}
-use Rattle.lists.specs.Answer.{ok, refused, ◌>>=◌}
+use Rattle.lists.specs.Answer.{◌>>=◌}
 use Rattle.lists.specs.Choose.{choose}
 use Rattle.lists.specs.Run.{run, build}
 use Rattle.lists.proofs.AnswerLaws.{refused-ok, then_ok}
@@ -58,16 +58,16 @@ module _ (i o a : ℕ → List Text) where
 
 -- elements of lists that may be missing as a whole
 module _ (f : ℕ → Text) (x n j : ℕ) (h : j < n) where
-  get_or_if : (t : Bool) → get_or (choose t (run f x n) []) j none ≡ choose t (f (x + j)) none
-  get_or_if true = get_or-run f x n j none h
+  get_or_if : (t : Bool) → get_or (choose t (run f x n) []) j None ≡ choose t (f (x + j)) None
+  get_or_if true = get_or-run f x n j None h
   get_or_if false = refl
 
-  get_or_else : (t : Bool) (d : Text) → choose (ltb 0 (length (choose t (run f x n) []))) (get_or (choose t (run f x n) []) j none) d ≡ choose t (f (x + j)) d
-  get_or_else true d = rw (length_run f x n, lt-ltb 0 n (omega arith)) (get_or-run f x n j none h)
+  get_or_else : (t : Bool) (d : Text) → choose (ltb 0 (length (choose t (run f x n) []))) (get_or (choose t (run f x n) []) j None) d ≡ choose t (f (x + j)) d
+  get_or_else true d = rw (length_run f x n, lt-ltb 0 n (omega arith)) (get_or-run f x n j None h)
   get_or_else false d = refl
 
 -- what a check that was passed says
-pub passed : (t : Bool) (r : Refusal) (u : Unit {0}) → refuse t r ≡ ok u → t ≡ false
+pub passed : (t : Bool) (r : Refusal) (u : Unit {0}) → refuse t r ≡ Ok u → t ≡ false
 passed true r u e = refused-ok e
 passed false r u e = refl
 
@@ -79,7 +79,7 @@ pub record RowsMatch (rows rules : ℕ) (s : Shape) : Type 0 where
   pub entries : rows - (s.height + 1) ≡ rules
   pub notes : 0 < s.notes.count → rows - s.notes.row ≡ rules
 
-sizes_match : (rows rules : ℕ) (s : Shape) (u : Unit {0}) → sizes_of rows rules s ≡ ok u → RowsMatch rows rules s
+sizes_match : (rows rules : ℕ) (s : Shape) (u : Unit {0}) → sizes_of rows rules s ≡ Ok u → RowsMatch rows rules s
 unfolding sizes_of
 sizes_match rows rules s u e =
     let p = then_ok (refuse (differ (rows - (s.height + 1)) rules) (InvalidSize 8)) _ u e in
@@ -88,7 +88,7 @@ sizes_match rows rules s u e =
       notes = λ k. no_different _ _ (passed _ (InvalidSize 12) u (rw (lt-ltb 0 s.notes.count k) at p.2));
     }
 
-pub checked_matches : (P : Plane) (rules : ℕ) (s : Shape) → checked_shape P rules ≡ ok s → RowsMatch (length P) rules s
+pub checked_matches : (P : Plane) (rules : ℕ) (s : Shape) → checked_shape P rules ≡ Ok s → RowsMatch (length P) rules s
 unfolding checked_shape
 checked_matches P rules s e =
     let a = then_ok (shape_of P (place_of MainDoubleCrossing P) (place_of HorizontalDoubleCrossing P)) _ s e in
@@ -99,7 +99,7 @@ checked_matches P rules s e =
 module _ (text : ℕ → List ℕ) (P : Plane) (s : Shape) where
   -- the allowed values of input i
   abbrev input_values_text : ℕ → Text
-  input_values_text i = choose s.allowed (optional text P (values_row text P s) i) none
+  input_values_text i = choose s.allowed (optional text P (values_row text P s) i) None
 
   inputs_stated : build s.inputs (input_of (found_as text P s)) ≡ build s.inputs (λ i. input (whole text P 0 i) (input_values_text i))
   unfolding found_as
@@ -119,13 +119,13 @@ module _ (text : ℕ → List ℕ) (P : Plane) (s : Shape) where
       ))
 
   -- row r of a table of entries
-  row_stated : (y x n rows r : ℕ) → r < rows → map some (get_or (run (λ k. run (cell_text text P k) x n) y rows) r []) ≡ row_texts text P (y + r) x n
+  row_stated : (y x n rows r : ℕ) → r < rows → map Some (get_or (run (λ k. run (cell_text text P k) x n) y rows) r []) ≡ row_texts text P (y + r) x n
   row_stated y x n rows r h =
-      ap (map some) (get_or-run (λ k. run (cell_text text P k) x n) y rows r [] h) ∙ map-run some (cell_text text P (y + r)) x n
+      ap (map Some) (get_or-run (λ k. run (cell_text text P k) x n) y rows r [] h) ∙ map-run Some (cell_text text P (y + r)) x n
 
   module _ (rules : ℕ) (f : RowsMatch (length P) rules s) where
     notes_stated : (r : ℕ) → r < rules
-        → choose (ltb 0 (length (found_as text P s).annotations)) (map some (get_or (found_as text P s).annotation_entries r [])) [] ≡ note_texts text P s (s.notes.row + r)
+        → choose (ltb 0 (length (found_as text P s).annotations)) (map Some (get_or (found_as text P s).annotation_entries r [])) [] ≡ note_texts text P s (s.notes.row + r)
     unfolding found_as run
     notes_stated r h =
         rw (length_run (cell_text text P 0) s.notes.col s.notes.count)
@@ -153,11 +153,11 @@ module _ (text : ℕ → List ℕ) (P : Plane) (s : Shape) where
         (λ r. length_run (whole text P (s.notes.row + r)) s.notes.col s.notes.count) 0 rules)
 
 -- the texts in slot order
-pub spelled_stated : (text : ℕ → List ℕ) (P : Plane) (rules : ℕ) (s : Shape) → checked_shape P rules ≡ ok s
+pub spelled_stated : (text : ℕ → List ℕ) (P : Plane) (rules : ℕ) (s : Shape) → checked_shape P rules ≡ Ok s
     → clause_texts (stated_by (found_as text P s) rules) ≡ spelled text P s rules
 unfolding clause_texts stated_by spelled found_as
 spelled_stated text P rules s e =
-    rw (inputs_stated text P s, outputs_stated text P s, rules_stated text P s rules (checked_matches P rules s e), map-run some (cell_text text P 0) s.notes.col s.notes.count)
+    rw (inputs_stated text P s, outputs_stated text P s, rules_stated text P s rules (checked_matches P rules s e), map-run Some (cell_text text P 0) s.notes.col s.notes.count)
     (rw (
       inputs-joined (whole text P 0) (input_values_text text P s) 0 s.inputs,
       outputs-joined (name_text text P s) (λ j. allowed_text (values_text text P s j)) (λ j. default_text (values_text text P s j)) 0 s.outputs,
@@ -174,12 +174,12 @@ unfolding stated_by found_as
 counted_stated text P rules s = (
   length_run (input_of (found_as text P s)) 0 s.inputs,
   length_run (output_of (found_as text P s)) 0 s.outputs,
-  length-map (run (cell_text text P 0) s.notes.col s.notes.count) some ∙ length_run (cell_text text P 0) s.notes.col s.notes.count,
+  length-map (run (cell_text text P 0) s.notes.col s.notes.count) Some ∙ length_run (cell_text text P 0) s.notes.col s.notes.count,
   length_run (rule_of (found_as text P s)) 0 rules,
 )
 
 -- an entry for each clause in each rule
-pub complete_stated : (text : ℕ → List ℕ) (P : Plane) (rules : ℕ) (s : Shape) → checked_shape P rules ≡ ok s
+pub complete_stated : (text : ℕ → List ℕ) (P : Plane) (rules : ℕ) (s : Shape) → checked_shape P rules ≡ Ok s
     → Entries (length (stated_by (found_as text P s) rules).inputs) (length (stated_by (found_as text P s) rules).outputs)
     (length (stated_by (found_as text P s) rules).annotations) (stated_by (found_as text P s) rules).rules
 unfolding stated_by
@@ -189,10 +189,10 @@ complete_stated text P rules s e =
 
 -- the clause rules, for the texts alone
 pub clauses_spelled : (text : ℕ → List ℕ) (P : Plane) (rules : ℕ) → 0 < rules
-    → ◌>>=◌ (clauses_of text P rules) (λ c. ok (clause_texts c)) ≡ ◌>>=◌ (checked_shape P rules) (λ s. ok (spelled text P s rules))
+    → ◌>>=◌ (clauses_of text P rules) (λ c. Ok (clause_texts c)) ≡ ◌>>=◌ (checked_shape P rules) (λ s. Ok (spelled text P s rules))
 clauses_spelled text P rules h = rw (clauses_apart text P rules h) (each_way (checked_shape P rules) (spelled_stated text P rules))
   where
-    each_way : (m : Reading Shape) → ((s : Shape) → m ≡ ok s → clause_texts (stated_by (found_as text P s) rules) ≡ spelled text P s rules)
-        → ◌>>=◌ (◌>>=◌ m (λ s. ok (stated_by (found_as text P s) rules))) (λ c. ok (clause_texts c)) ≡ ◌>>=◌ m (λ s. ok (spelled text P s rules))
-    each_way (ok s) e = ap ok (e s refl)
-    each_way (refused r) e = refl
+    each_way : (m : Reading Shape) → ((s : Shape) → m ≡ Ok s → clause_texts (stated_by (found_as text P s) rules) ≡ spelled text P s rules)
+        → ◌>>=◌ (◌>>=◌ m (λ s. Ok (stated_by (found_as text P s) rules))) (λ c. Ok (clause_texts c)) ≡ ◌>>=◌ m (λ s. Ok (spelled text P s rules))
+    each_way (Ok s) e = ap Ok (e s refl)
+    each_way (Err r) e = refl

@@ -1,8 +1,7 @@
 -- The clause rules: document 01, "The policy that a drawing states", and `recognize_horizontal_table` of the Rust.
 -- The order of the lines is the order in which cells are read and sheets are refused.
-use Rattle.std.specs.Prelude.{Bool, not, List, [], ◌∷◌, ℕ, ◌+◌, ◌-◌, eqb, ltb, length}
-use Rattle.std.proofs.Math.Option.{Option, none, some}
-use Rattle.lists.specs.Answer.{ok, refused, ◌>>=◌, ◌>>◌}
+use Rattle.std.specs.Prelude.{Bool, not, List, [], ◌∷◌, ℕ, ◌+◌, ◌-◌, eqb, ltb, length, Option, None, Some, Ok, Err}
+use Rattle.lists.specs.Answer.{◌>>=◌, ◌>>◌}
 use Rattle.lists.specs.Choose.{choose}
 use Rattle.model.specs.Refusals.{Reading}
 use Rattle.model.specs.declared.Cell.TheVariants.{MainDoubleCrossing, HorizontalDoubleCrossing}
@@ -13,22 +12,23 @@ use Rattle.cell_tests.specs.Readings.{refuse}
 use Rattle.cell_tests.specs.SheetCells.{width_of, region_at}
 use Rattle.allowed.specs.Allowed.{allowed_of}
 use Rattle.clauses.specs.Readings.{along}
-use Rattle.clauses.specs.SheetCells.{Place, place_of}
+use Rattle.clauses.specs.declared.Place.{Place}
+use Rattle.clauses.specs.SheetCells.{place_of}
 
 -- the main crossing, or 9
 abbrev pub main_of : Option Place → Reading Place
-main_of none = refused NoMainCrossing
-main_of (some p) = ok p
+main_of None = Err NoMainCrossing
+main_of (Some p) = Ok p
 
 -- the outputs end at the annotation crossing, or at the end of row 0
 abbrev pub outputs_end : Plane → Option Place → ℕ
-outputs_end P none = width_of P 0
-outputs_end P (some q) = q.col
+outputs_end P None = width_of P 0
+outputs_end P (Some q) = q.col
 
 -- an empty text is absent
 abbrev pub present : List ℕ → Text
-present [] = none
-present (b ∷ s) = some (b ∷ s)
+present [] = None
+present (b ∷ s) = Some (b ∷ s)
 
 -- what the output clauses have: a label, component names, allowed values
 pub record OutputTexts : Type 0 where
@@ -61,13 +61,13 @@ module _ (text : ℕ → List ℕ) (P : Plane) where
   unfoldable pub text_at : ℕ → ℕ → Reading (List ℕ)
   text_at y x = do
     r ← region_at P y x
-    ok (text r)
+    Ok (text r)
 
   -- labels, component names and allowed values are absent when empty
   unfoldable pub optional_at : ℕ → ℕ → Reading Text
   optional_at y x = do
     r ← region_at P y x
-    ok (present (text r))
+    Ok (present (text r))
 
   -- from row y to the sheet's end, in the n columns from x on
   unfoldable pub entries_of : ℕ → ℕ → ℕ → Reading (List (List (List ℕ)))
@@ -78,48 +78,48 @@ module _ (text : ℕ → List ℕ) (P : Plane) where
   one_output x h =
       choose (eqb h 1) (do
         l ← optional_at 0 x
-        ok (record { label = l; names = []; values = [] }))
+        Ok (record { label = l; names = []; values = [] }))
       (choose (eqb h 2) (do
         a ← region_at P 0 x
         b ← region_at P 1 x
-        l ← choose (eqb a b) (ok none) (optional_at 0 x)
+        l ← choose (eqb a b) (Ok None) (optional_at 0 x)
         v ← optional_at 1 x
-        ok (record { label = l; names = []; values = v ∷ [] }))
-      (refused TooManyOutputRows))
+        Ok (record { label = l; names = []; values = v ∷ [] }))
+      (Err TooManyOutputRows))
 
   -- m outputs from column x on: a label only above component names that are not in row 0
   unfoldable pub many_outputs : ℕ → ℕ → ℕ → Bool → Reading OutputTexts
   many_outputs x m h allowed =
       choose (eqb h 1) (do
         c ← along (optional_at 0) x m
-        ok (record { label = none; names = c; values = [] }))
+        Ok (record { label = None; names = c; values = [] }))
       (choose (eqb h 2)
       (choose allowed (do
         c ← along (optional_at 0) x m
         v ← along (optional_at 1) x m
-        ok (record { label = none; names = c; values = v }))
+        Ok (record { label = None; names = c; values = v }))
       (do
         l ← optional_at 0 x
         c ← along (optional_at 1) x m
-        ok (record { label = l; names = c; values = [] })))
+        Ok (record { label = l; names = c; values = [] })))
       (do
         l ← optional_at 0 x
         c ← along (optional_at 1) x m
         v ← along (optional_at 2) x m
-        ok (record { label = l; names = c; values = v })))
+        Ok (record { label = l; names = c; values = v })))
 
   unfoldable pub outputs_of : ℕ → ℕ → ℕ → Bool → Reading OutputTexts
   outputs_of x m h allowed =
-      choose (eqb m 0) (refused NoOutputClause) (choose (eqb m 1) (one_output x h) (many_outputs x m h allowed))
+      choose (eqb m 0) (Err NoOutputClause) (choose (eqb m 1) (one_output x h) (many_outputs x m h allowed))
 
   -- annotation names stand in row 0, entries from the row below the annotation crossing on; P9 is 10
   unfoldable pub notes_of : Option Place → Reading NoteTexts
-  notes_of none = ok (record { names = []; entries = [] })
-  notes_of (some q) = do
+  notes_of None = Ok (record { names = []; entries = [] })
+  notes_of (Some q) = do
     refuse (not (ltb q.col (width_of P 0))) PlaneMalformed
     c ← along (text_at 0) (q.col + 1) (width_of P 0 - (q.col + 1))
     e ← entries_of (q.row + 1) (q.col + 1) (width_of P 0 - (q.col + 1))
-    ok (record { names = c; entries = e })
+    Ok (record { names = c; entries = e })
 
   -- from the main crossing and the annotation crossing: 9; P7 and P8 are 10; then in the order of the readings
   unfoldable pub found_from : Option Place → Option Place → Reading Found
@@ -132,12 +132,12 @@ module _ (text : ℕ → List ℕ) (P : Plane) where
     let m = e - (n + 1)
     allowed ← allowed_of P n m h
     x ← along (text_at 0) 0 n
-    v ← choose allowed (along (optional_at (h - 1)) 0 n) (ok [])
+    v ← choose allowed (along (optional_at (h - 1)) 0 n) (Ok [])
     i ← entries_of (h + 1) 0 n
     o ← outputs_of (n + 1) m h allowed
     t ← entries_of (h + 1) (n + 1) m
     a ← notes_of notes
-    ok (record {
+    Ok (record {
       inputs = n;
       expressions = x;
       input_values = v;

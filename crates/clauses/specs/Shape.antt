@@ -1,8 +1,7 @@
 -- The clause rules apart: every refusal in its order, and where everything stands on the sheet. No reader has to believe this: it is
 -- shown that with the texts it is `clauses_of`.
-use Rattle.std.specs.Prelude.{Bool, not, ◌&&◌, ℕ, ◌+◌, ◌-◌, ltb, length}
-use Rattle.std.proofs.Math.Option.{Option, none, some}
-use Rattle.lists.specs.Answer.{ok, ◌>>=◌, ◌>>◌}
+use Rattle.std.specs.Prelude.{Bool, not, ◌&&◌, ℕ, ◌+◌, ◌-◌, ltb, length, Option, None, Some, Ok}
+use Rattle.lists.specs.Answer.{◌>>=◌, ◌>>◌}
 use Rattle.lists.specs.Choose.{choose}
 use Rattle.model.specs.Refusals.{Reading}
 use Rattle.model.specs.declared.Cell.TheVariants.{MainDoubleCrossing, HorizontalDoubleCrossing}
@@ -14,7 +13,8 @@ use Rattle.allowed.specs.Allowed.{allowed_of}
 use Rattle.passes.specs.Passes.{fine_row, fine_rows}
 use Rattle.layouts.specs.Layouts.{layout_of}
 use Rattle.clauses.specs.Clauses.{main_of, outputs_end}
-use Rattle.clauses.specs.SheetCells.{Place, place_of}
+use Rattle.clauses.specs.declared.Place.{Place}
+use Rattle.clauses.specs.SheetCells.{place_of}
 use Rattle.clauses.specs.Sizes.{differ}
 use Rattle.clauses.specs.declared.Notes.{Notes}
 use Rattle.clauses.specs.declared.Shape.{Shape}
@@ -28,18 +28,18 @@ sizes_of rows rules s = do
 module _ (P : Plane) where
   -- how many annotations there are, and the column and the row where their entries start
   unfoldable pub notes_at : Option Place → Reading Notes
-  notes_at none = ok (record { count = 0; col = 0; row = length P })
-  notes_at (some q) = do
+  notes_at None = Ok (record { count = 0; col = 0; row = length P })
+  notes_at (Some q) = do
     refuse (not (ltb q.col (width_of P 0))) PlaneMalformed
     fine_row P 0 (q.col + 1) (width_of P 0 - (q.col + 1))
     fine_rows P (q.row + 1) (q.col + 1) (width_of P 0 - (q.col + 1))
-    ok (record { count = width_of P 0 - (q.col + 1); col = q.col + 1; row = q.row + 1 })
+    Ok (record { count = width_of P 0 - (q.col + 1); col = q.col + 1; row = q.row + 1 })
 
   -- the cells of n inputs under h clause rows, with allowed values or without
   unfoldable pub inputs_fine : ℕ → ℕ → Bool → Reading (Unit {0})
   inputs_fine n h allowed = do
     fine_row P 0 0 n
-    choose allowed (fine_row P (h - 1) 0 n) (ok tt)
+    choose allowed (fine_row P (h - 1) 0 n) (Ok tt)
     fine_rows P (h + 1) 0 n
 
   -- n inputs and m outputs under h clause rows
@@ -50,7 +50,7 @@ module _ (P : Plane) where
     l ← layout_of P (n + 1) m h allowed
     fine_rows P (h + 1) (n + 1) m
     a ← notes_at notes
-    ok (record { inputs = n; outputs = m; height = h; allowed = allowed; layout = l; notes = a })
+    Ok (record { inputs = n; outputs = m; height = h; allowed = allowed; layout = l; notes = a })
 
   unfoldable pub shape_of : Option Place → Option Place → Reading Shape
   shape_of main notes = do
@@ -62,4 +62,4 @@ module _ (P : Plane) where
   checked_shape rules = do
     s ← shape_of (place_of MainDoubleCrossing P) (place_of HorizontalDoubleCrossing P)
     sizes_of (length P) rules s
-    ok s
+    Ok s

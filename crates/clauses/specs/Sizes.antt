@@ -1,6 +1,6 @@
 -- The sizes of what the clause rules find: `validate_size` of the Rust, number 25.
 use Rattle.std.specs.Prelude.{Bool, true, false, not, ◌&&◌, List, [], ◌∷◌, ℕ, eqb, ltb, length}
-use Rattle.lists.specs.Answer.{◌>>=◌, ◌>>◌}
+use Rattle.lists.specs.Answer.{◌>>◌}
 use Rattle.lists.specs.Choose.{choose}
 use Rattle.model.specs.Refusals.{Reading}
 use Rattle.model.specs.declared.Refusal.TheVariants.{InvalidSize}

@@ -1,7 +1,5 @@
 -- The texts of a sheet whose shape is known, in slot order. No reader has to believe this: it is shown to be the texts of `clauses_of`.
-use Rattle.std.specs.Prelude.{List, [], ◌∷◌, ◌++◌, ℕ, zero, suc, ◌+◌, ◌-◌}
-use Rattle.std.proofs.Math.Option.{none, some}
-use Rattle.lists.specs.Answer.{ok, refused}
+use Rattle.std.specs.Prelude.{List, [], ◌∷◌, ◌++◌, ℕ, zero, suc, ◌+◌, ◌-◌, None, Some, Ok, Err}
 use Rattle.lists.specs.Choose.{choose}
 use Rattle.lists.specs.Run.{run}
 use Rattle.model.specs.Refusals.{Reading}
@@ -19,8 +17,8 @@ join_run f k (suc n) = f k ++ join_run f (suc k) n
 
 -- what f makes of an answer, or b
 abbrev pub read_or : {A B : Type 0} → Reading A → (A → B) → B → B
-read_or (ok a) f b = f a
-read_or (refused r) f b = b
+read_or (Ok a) f b = f a
+read_or (Err r) f b = b
 
 module _ (text : ℕ → List ℕ) (P : Plane) where
   -- the text of a cell; where it cannot be read, an empty one
@@ -28,7 +26,7 @@ module _ (text : ℕ → List ℕ) (P : Plane) where
   cell_text y x = read_or (region_at P y x) text []
 
   abbrev pub whole : ℕ → ℕ → Text
-  whole y x = some (cell_text y x)
+  whole y x = Some (cell_text y x)
 
   abbrev pub optional : ℕ → ℕ → Text
   optional y x = present (cell_text y x)
@@ -50,17 +48,17 @@ module _ (text : ℕ → List ℕ) (P : Plane) where
     names_row = choose s.layout.valued (s.height - 2) (s.height - 1)
 
     abbrev pub label_text : Text
-    label_text = choose s.layout.labelled (optional 0 first_output) none
+    label_text = choose s.layout.labelled (optional 0 first_output) None
 
     abbrev pub input_text : ℕ → List Text
-    input_text i = whole 0 i ∷ choose s.allowed (optional values_row i) none ∷ []
+    input_text i = whole 0 i ∷ choose s.allowed (optional values_row i) None ∷ []
 
     -- one output has the label for its name
     abbrev pub name_text : ℕ → Text
     name_text j = choose s.layout.named (optional names_row (first_output + j)) label_text
 
     abbrev pub values_text : ℕ → Text
-    values_text j = choose s.layout.valued (optional values_row (first_output + j)) none
+    values_text j = choose s.layout.valued (optional values_row (first_output + j)) None
 
     abbrev pub output_text : ℕ → List Text
     output_text j = name_text j ∷ allowed_text (values_text j) ∷ default_text (values_text j) ∷ []

@@ -5,24 +5,23 @@ ghost use Rattle.std.specs.Prelude.{◌≡◌, drop};
 ghost use Rattle.utf8.specs.Utf8.{decode, StandsAt, check, checked};
 ghost use Rattle.utf8.specs.declared.Decoded.TheVariants.{Char};
 
-use utf8::Checked;
-
 // The check of the bytes from an index on.
-pub fn validate_from(s: &[u8], from: usize) -> Checked
+pub fn validate_from(s: &[u8], from: usize) -> Result<(), usize>
     ensures { result ≡ check 0 from (drop from s.now) }
 {
     let mut at = from;
+    // No `for`: each turn goes on by the bytes of a code point.
     while at < s.len() {
         let n = utf8::passed(s, at);
         if n == 0 {
-            return Checked::Invalid(at);
+            return Err(at);
         }
         at += n;
     }
-    Checked::Valid
+    Ok(())
 }
 
-pub fn validate(s: &[u8]) -> Checked
+pub fn validate(s: &[u8]) -> Result<(), usize>
     ensures { result ≡ checked s.now }
 {
     validate_from(s, 0)

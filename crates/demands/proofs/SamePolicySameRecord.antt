@@ -1,12 +1,12 @@
 -- Demand 3, first half: "Whatever two drawings the reader accepts, however their boxes are joined or split: their records are the same bytes,
 -- the orientation word set aside, exactly when the drawings state the same policy". Document 01: "A lent plane .. stands with the drawings
 -- under demand 3."
+use Rattle.std.specs.Prelude.{Ok}
 use mathlib.Core.List.{List}
 use mathlib.Core.Logic.{◌↔◌}
 use mathlib.Core.Path.{◌≡◌, refl}
 use Prim.Native.Nat.{ℕ}
 use lib.ListN.{length, drop}
-use Rattle.lists.specs.Answer.{ok}
 use Rattle.lists.specs.Put.{put}
 use Rattle.lists.proofs.PutLaws.{put_front}
 use Rattle.record.specs.Compared.{compared}
@@ -15,12 +15,11 @@ use Rattle.record.specs.Record.{encode, table_of}
 use Rattle.record.proofs.RecordTellsPolicy.{record_tells_policy}
 use Rattle.policies.specs.Source.{Source, stated_by}
 use Rattle.policies.proofs.StatedFits.{stated_recordable}
-use Rattle.records.specs.declared.Outcome.TheVariants.{Record}
 use Rattle.demands.specs.SourceEnd.{source_end}
 use Rattle.demands.proofs.Recorded.{accepted}
 
 -- two sources that state the policies p and q, and record slices that were written to
-pub told_apart : (x y : Source) (p q : Policy) (o u : List ℕ) → stated_by x ≡ ok p → stated_by y ≡ ok q
+pub told_apart : (x y : Source) (p q : Policy) (o u : List ℕ) → stated_by x ≡ Ok p → stated_by y ≡ Ok q
     → (compared (put o 0 (encode (table_of p))) ≡ compared (put u 0 (encode (table_of q)))) ↔ Same p q
 told_apart x y p q o u e f =
     let a = stated_recordable x p e in
@@ -32,13 +31,13 @@ told_apart x y p q o u e f =
 pub record Told (x y : Source) (wx wy : List (List ℕ)) (ox oy : List ℕ) : Type 0 where
   pub first : Policy
   pub second : Policy
-  pub first_stated : stated_by x ≡ ok first
-  pub second_stated : stated_by y ≡ ok second
+  pub first_stated : stated_by x ≡ Ok first
+  pub second_stated : stated_by y ≡ Ok second
   pub exactly : (compared (source_end x wx ox).out ≡ compared (source_end y wy oy).out) ↔ Same first second
 
 -- for any two sources, drawings or lent planes in any mix, with whatever slices
 pub same_policy_same_record : (x y : Source) (wx wy : List (List ℕ)) (ox oy : List ℕ) (m n : ℕ)
-    → (source_end x wx ox).outcome ≡ Record m → (source_end y wy oy).outcome ≡ Record n → Told x y wx wy ox oy
+    → (source_end x wx ox).outcome ≡ Ok m → (source_end y wy oy).outcome ≡ Ok n → Told x y wx wy ox oy
 same_policy_same_record x y wx wy ox oy m n e f =
     let a = accepted x wx ox m e in
     let b = accepted y wy oy n f in

@@ -1,11 +1,11 @@
 -- What some sheets state, from the bytes of the drawing, by computation: the sheet of document 01 states the policy whose record that document
 -- prints, and a joined box states what boxes apart with the same text state.
+use Rattle.std.specs.Prelude.{Ok, None, Some}
 use mathlib.Core.Path.{◌≡◌, refl}
-use mathlib.Core.Option.{none, some}
 use mathlib.Core.List.{List, [], ◌∷◌, ◌++◌}
 use Prim.Native.Nat.{ℕ}
 use Prim.Native.String.{String}
-use Rattle.lists.specs.Answer.{ok, each, those}
+use Rattle.lists.specs.Answer.{each, those}
 use Rattle.lists.specs.OneOf.{one_of, any_at}
 use Rattle.lists.specs.Picture.{within, in_rect}
 use Rattle.lists.specs.Run.{run}
@@ -95,22 +95,22 @@ apart =
     ∷ [])
 
 abbrev text : String → Text
-text s = some (utf8 s)
+text s = Some (utf8 s)
 
 -- "so a joined box gives its text to every cell that it covers"
 abbrev two_rules : Policy
 two_rules =
     record {
-      name = none;
+      name = None;
       hit = Unique;
       orientation = RulesAsRows;
       label = text "b";
-      inputs = input (text "a") none ∷ [];
-      outputs = output (text "b") none none ∷ [];
+      inputs = input (text "a") None ∷ [];
+      outputs = output (text "b") None None ∷ [];
       annotations = [];
       rules = rule (text "-" ∷ []) (text "3" ∷ []) [] ∷ rule (text "-" ∷ []) (text "4" ∷ []) [] ∷ [];
     }
 
-pub sheets_stated : (walked_policy fares ≡ ok sample) × (walked_policy joined ≡ ok two_rules) × (walked_policy apart ≡ ok two_rules)
+pub sheets_stated : (walked_policy fares ≡ Ok sample) × (walked_policy joined ≡ Ok two_rules) × (walked_policy apart ≡ Ok two_rules)
 unfolding each those one_of any_at within in_rect run lines texts last_of trim_start trim_end trim more by decode check read encode encodes among same_text by_letters digits number_of holds_in holds oriented_of last place_behind placement_of counted rule_numbers_of upright_of stated_sheet allowed_of text_at optional_at entries_of one_output outputs_of notes_of found_from along every region_at place_in_row place_from uneven sized stated_by clauses_of sheet_policy stated_policy size_of up_to collect widest flat frame_of walk_from search_from named_by body_of table_of outline_by top_of body_code shaded_code carried_code line_carried thin_of regions_by region_from plane_by behind text_of packed texts_of text_plane_by drawing_by sheet_by region_texts_by policy_by
 sheets_stated = (refl, refl, refl)

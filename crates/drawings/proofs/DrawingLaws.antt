@@ -1,4 +1,5 @@
 -- From what drawing a sheet and reading its regions promise to the lines that are printed.
+use Rattle.std.specs.Prelude.{Ok, Err, Result, ℕ}
 use mathlib.Core.Path.{◌≡◌, refl, sym, ap, subst, ◌∙◌}
 use mathlib.Core.Bool.{true}
 use mathlib.Core.List.{List, ◌++◌}
@@ -6,7 +7,6 @@ use Prim.Native.Nat.{ℕ, ◌+◌, ◌*◌, ◌≤◌}
 use native.Mathlib.Nat.{mul-le-mul}
 use native.Mathlib.Omega.{arith}
 use lib.ListN.{length}
-use Rattle.lists.specs.Answer.{ok, refused}
 use Rattle.lists.specs.Picture.{canvas}
 use Rattle.lists.proofs.AnswerLaws.{refused-ok}
 use Rattle.lists.proofs.Tests.{by_flag}
@@ -18,76 +18,70 @@ use Rattle.sheet_rows.specs.Rows.{rows_at}
 use Rattle.scan.specs.Canvas.{fits, size_of}
 use Rattle.scan.proofs.Answers.{fits-size}
 use Rattle.utf8.specs.Utf8.{checked}
-use Rattle.utf8.specs.declared.Checked.{Checked}
-use Rattle.utf8.specs.declared.Checked.TheVariants.{Valid, Invalid}
 use Rattle.canvas.specs.Layers.{drawing_by, drawing_of, sheet_by, sheet_of}
 use Rattle.canvas.specs.Drawn.{outline_in, LayersIn, Shown}
 use Rattle.text_planes.specs.RegionTexts.{Regions as Shape, region_texts_of, regions_in, UsedIn}
 use Rattle.canvas.specs.declared.Drawing.{Drawing}
-use Rattle.canvas.specs.declared.Drawing.TheVariants.{Drawn, NotDrawn}
 use Rattle.text_planes.specs.declared.RegionsRead.{RegionsRead}
-use Rattle.text_planes.specs.declared.RegionsRead.TheVariants.{Read, NotRead}
 use Rattle.cells.specs.Plane.{Plane, plane_in, PlaneFits}
 use Rattle.cells.specs.Spans.{texts_in}
 use Rattle.rects.specs.Rects.{rects_of}
 use Rattle.step.specs.Made.{plane_made, MadeFits, StepRoom}
 use Rattle.step.specs.PlaneStep.{plane_of}
-use Rattle.step.specs.declared.PlaneMade.{PlaneMade}
-use Rattle.step.specs.declared.PlaneMade.TheVariants.{Made, NotMade}
 use Rattle.print.specs.Lines.{refused_line}
 use Rattle.plane_lines.specs.Planes.{plane_lines}
 use Rattle.sketch.specs.Drawings.{layers_lines, counted_lines, name_line, Layer, Texts, Regions}
 use Rattle.drawings.specs.DrawingLines.{plane_printed, regions_lines, drawing_lines}
 
-drawn-fits : (rs : List (List ℕ)) (o : Outline) → drawing_of rs ≡ ok o → fits rs ≡ true
+drawn-fits : (rs : List (List ℕ)) (o : Outline) → drawing_of rs ≡ Ok o → fits rs ≡ true
 unfolding drawing_by size_of
 drawn-fits rs o e = by_flag (fits rs) (λ t. t) (λ t. refused-ok (rw t at e))
 
-sheet-fits : (s : List ℕ) (o : Outline) → sheet_of s ≡ ok o → fits (rows_at s 0) ≡ true
+sheet-fits : (s : List ℕ) (o : Outline) → sheet_of s ≡ Ok o → fits (rows_at s 0) ≡ true
 unfolding sheet_by
 sheet-fits s o e = go (checked s) refl
   where
-    go : (k : Checked) → checked s ≡ k → fits (rows_at s 0) ≡ true
-    go Valid f = drawn-fits (rows_at s 0) o (rw f at e)
-    go (Invalid at) f = refused-ok (rw f at e)
+    go : (k : Result (Unit {0}) ℕ) → checked s ≡ k → fits (rows_at s 0) ≡ true
+    go (Ok tt) f = drawn-fits (rows_at s 0) o (rw f at e)
+    go (Err at) f = refused-ok (rw f at e)
 
 -- a sheet that is drawn
-module _ (s : List ℕ) (d : Drawing) (e : outline_in d ≡ sheet_of s) where
-  module _ {h w end : ℕ} {o : Outline} (t m b g : List ℕ) (l : LayersIn d (rows_at s 0) t m b g) (k : d ≡ Drawn h w end o) where
-    outlined : sheet_of s ≡ ok o
+module _ (s : List ℕ) (a : Reading Drawing) (e : outline_in a ≡ sheet_of s) where
+  module _ {d : Drawing} (t m b g : List ℕ) (l : LayersIn a (rows_at s 0) t m b g) (k : a ≡ Ok d) where
+    outlined : sheet_of s ≡ Ok d.outline
     outlined = sym e ∙ ap outline_in k
 
-    shown : Shown (rows_at s 0) h w o.body t m b g
-    shown = subst (λ (d : Drawing). LayersIn d (rows_at s 0) t m b g) k l
+    shown : Shown (rows_at s 0) d.rows d.columns d.outline.body t m b g
+    shown = subst (λ (a : Reading Drawing). LayersIn a (rows_at s 0) t m b g) k l
 
-    pub drawn-layer : (x : List ℕ) → canvas_size ≤ length x → Layer w h x
+    pub drawn-layer : (x : List ℕ) → canvas_size ≤ length x → Layer d.columns d.rows x
     drawn-layer x q =
-        let f = fits-size (rows_at s 0) (sheet-fits s o outlined) in
-        let z : h * w ≤ canvas_size = rw (shown.rows, shown.columns) f.2 in
+        let f = fits-size (rows_at s 0) (sheet-fits s d.outline outlined) in
+        let z : d.rows * d.columns ≤ canvas_size = rw (shown.rows, shown.columns) f.2 in
         record { columns = rw shown.columns f.0; rows = rw shown.rows f.1; size = omega arith }
 
-    pub drawn-lines : layers_lines (canvas w h t) (canvas w h m) (canvas w h b) (canvas w h g) w h
-        ++ regions_lines o (canvas w h g) w h (region_texts_of (canvas w h t) (canvas w h m) w h) ≡ drawing_lines s
+    pub drawn-lines : layers_lines (canvas d.columns d.rows t) (canvas d.columns d.rows m) (canvas d.columns d.rows b) (canvas d.columns d.rows g) d.columns d.rows
+        ++ regions_lines d.outline (canvas d.columns d.rows g) d.columns d.rows (region_texts_of (canvas d.columns d.rows t) (canvas d.columns d.rows m) d.columns d.rows) ≡ drawing_lines s
     unfolding drawing_lines
     drawn-lines = let q = shown in rw (outlined, q.text, q.thin, q.body, q.grid, q.columns, q.rows)
 
-  pub not_drawn : {r : Refusal} → d ≡ NotDrawn r → refused_line (numbers r) ≡ drawing_lines s
+  pub not_drawn : {r : Refusal} → a ≡ Err r → refused_line (numbers r) ≡ drawing_lines s
   unfolding drawing_lines
-  not_drawn {r} k = let q : sheet_of s ≡ refused r = sym e ∙ ap outline_in k in rw q
+  not_drawn {r} k = let q : sheet_of s ≡ Err r = sym e ∙ ap outline_in k in rw q
 
 -- regions that are read
-module _ (o : Outline) (text thin grid : List ℕ) (w h : ℕ) (r : RegionsRead) (rects bytes spans : List ℕ)
+module _ (o : Outline) (text thin grid : List ℕ) (w h : ℕ) (r : Reading RegionsRead) (rects bytes spans : List ℕ)
     (e : regions_in r rects bytes spans ≡ region_texts_of (canvas w h text) (canvas w h thin) w h) where
   lines : (q : Reading Shape) → regions_in r rects bytes spans ≡ q → regions_lines o (canvas w h grid) w h q ≡ regions_lines o (canvas w h grid) w h (region_texts_of (canvas w h text) (canvas w h thin) w h)
   lines q k = ap (regions_lines o (canvas w h grid) w h) (sym k ∙ e)
 
-  pub read-lines : {n used : ℕ} → r ≡ Read n used
-      → counted_lines (rects_of rects n) (texts_in bytes spans n) ++ (name_line o.named (texts_in bytes spans n) ++ plane_printed (plane_of o (rects_of rects n) (canvas w h grid) w h))
+  pub read-lines : {g : RegionsRead} → r ≡ Ok g
+      → counted_lines (rects_of rects g.count) (texts_in bytes spans g.count) ++ (name_line o.named (texts_in bytes spans g.count) ++ plane_printed (plane_of o (rects_of rects g.count) (canvas w h grid) w h))
       ≡ regions_lines o (canvas w h grid) w h (region_texts_of (canvas w h text) (canvas w h thin) w h)
-  read-lines k = lines _ (ap (λ (r : RegionsRead). regions_in r rects bytes spans) k)
+  read-lines k = lines _ (ap (λ (r : Reading RegionsRead). regions_in r rects bytes spans) k)
 
-  pub not_read : {q : Refusal} → r ≡ NotRead q → refused_line (numbers q) ≡ regions_lines o (canvas w h grid) w h (region_texts_of (canvas w h text) (canvas w h thin) w h)
-  not_read k = lines _ (ap (λ (r : RegionsRead). regions_in r rects bytes spans) k)
+  pub not_read : {q : Refusal} → r ≡ Err q → refused_line (numbers q) ≡ regions_lines o (canvas w h grid) w h (region_texts_of (canvas w h text) (canvas w h thin) w h)
+  not_read k = lines _ (ap (λ (r : Reading RegionsRead). regions_in r rects bytes spans) k)
 
 -- the plane step's slices
 pub step_room : {w h n : ℕ} {grid rects found : List ℕ} → Layer w h grid → n ≤ region_count → n * 4 ≤ length rects → canvas_size ≤ length found → StepRoom w h n grid rects found
@@ -96,27 +90,27 @@ step_room {w} {h} l k r f =
     record { layer = record { columns = omega (arith, l.columns); rows = omega (arith, l.rows); size = l.size }; size = omega arith; few = k; rects = r }
 
 -- what is printed of a plane that is made, or not
-module _ (m : PlaneMade) (d : List ℕ) (x : Reading Plane) (e : plane_made m d ≡ x) where
-  pub made_lines : {n : ℕ} → m ≡ Made n → plane_lines (plane_in d n) ≡ plane_printed x
-  made_lines k = ap plane_printed (sym (ap (λ (m : PlaneMade). plane_made m d) k) ∙ e)
+module _ (m : Reading ℕ) (d : List ℕ) (x : Reading Plane) (e : plane_made m d ≡ x) where
+  pub made_lines : {n : ℕ} → m ≡ Ok n → plane_lines (plane_in d n) ≡ plane_printed x
+  made_lines k = ap plane_printed (sym (ap (λ (m : Reading ℕ). plane_made m d) k) ∙ e)
 
-  pub not_made : {r : Refusal} → m ≡ NotMade r → refused_line (numbers r) ≡ plane_printed x
-  not_made k = ap plane_printed (sym (ap (λ (m : PlaneMade). plane_made m d) k) ∙ e)
+  pub not_made : {r : Refusal} → m ≡ Err r → refused_line (numbers r) ≡ plane_printed x
+  not_made k = ap plane_printed (sym (ap (λ (m : Reading ℕ). plane_made m d) k) ∙ e)
 
-pub made_fits : (m : PlaneMade) (d : List ℕ) {n : ℕ} → MadeFits m d → m ≡ Made n → PlaneFits d n
-made_fits m d f k = subst (λ (m : PlaneMade). MadeFits m d) k f
+pub made_fits : (m : Reading ℕ) (d : List ℕ) {n : ℕ} → MadeFits m d → m ≡ Ok n → PlaneFits d n
+made_fits m d f k = subst (λ (m : Reading ℕ). MadeFits m d) k f
 
-module _ (r : RegionsRead) (bytes spans : List ℕ) {n used : ℕ} (u : UsedIn r bytes spans) (k : r ≡ Read n used) where
-  used_in : UsedIn (Read n used) bytes spans
-  used_in = subst (λ (r : RegionsRead). UsedIn r bytes spans) k u
+module _ (r : Reading RegionsRead) (bytes spans : List ℕ) {g : RegionsRead} (u : UsedIn r bytes spans) (k : r ≡ Ok g) where
+  used_in : UsedIn (Ok g) bytes spans
+  used_in = subst (λ (r : Reading RegionsRead). UsedIn r bytes spans) k u
 
-  pub read-texts : text_bytes + 4 ≤ length bytes → region_count * 2 ≤ length spans → Texts bytes spans n
+  pub read-texts : text_bytes + 4 ≤ length bytes → region_count * 2 ≤ length spans → Texts bytes spans g.count
   read-texts b c =
       let v = used_in in
       record { two_each = omega (arith, v.0); inside = λ j i. omega (arith, v.1.1.1 j i, v.1.1.0); total = omega (arith, v.1.0, v.1.1.0) }
 
-  pub read-few : n ≤ region_count
+  pub read-few : g.count ≤ region_count
   read-few = used_in.0
 
-  pub read-regions : (rects : List ℕ) → region_count * 4 ≤ length rects → text_bytes + 4 ≤ length bytes → region_count * 2 ≤ length spans → Regions rects bytes spans n
+  pub read-regions : (rects : List ℕ) → region_count * 4 ≤ length rects → text_bytes + 4 ≤ length bytes → region_count * 2 ≤ length spans → Regions rects bytes spans g.count
   read-regions rects a b c = record { count = read-few; four_each = omega (arith, read-few); texts = read-texts b c }

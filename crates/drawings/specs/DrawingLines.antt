@@ -1,6 +1,5 @@
 -- The lines that the judge prints for the bytes of a sheet.
-use Rattle.std.specs.Prelude.{List, ◌++◌, ℕ, length}
-use Rattle.lists.specs.Answer.{ok, refused}
+use Rattle.std.specs.Prelude.{List, ◌++◌, ℕ, length, Ok, Err}
 use Rattle.lists.specs.Picture.{Picture}
 use Rattle.model.specs.Refusals.{Reading, numbers}
 use Rattle.cells.specs.Plane.{Plane}
@@ -15,13 +14,13 @@ use Rattle.plane_lines.specs.Planes.{plane_lines}
 
 -- the plane, or why there is none
 abbrev pub plane_printed : Reading Plane → List ℕ
-plane_printed (ok P) = plane_lines P
-plane_printed (refused r) = refused_line (numbers r)
+plane_printed (Ok P) = plane_lines P
+plane_printed (Err r) = refused_line (numbers r)
 
 -- the regions, the name if there is one, and the plane of GRID; or why the regions cannot be read
 abbrev pub regions_lines : Outline → Picture → ℕ → ℕ → Reading Regions → List ℕ
-regions_lines o grid w h (ok g) = counted_lines g.rects g.texts ++ (name_line o.named g.texts ++ plane_printed (plane_of o g.rects grid w h))
-regions_lines o grid w h (refused r) = refused_line (numbers r)
+regions_lines o grid w h (Ok g) = counted_lines g.rects g.texts ++ (name_line o.named g.texts ++ plane_printed (plane_of o g.rects grid w h))
+regions_lines o grid w h (Err r) = refused_line (numbers r)
 
 -- room for them
 abbrev pub regions_bytes : ℕ
@@ -29,10 +28,10 @@ regions_bytes = 297342
 
 -- the layers, the regions and the plane of some rows whose outline is known; or why they have none
 abbrev pub drawn_lines : List (List ℕ) → Reading Outline → List ℕ
-drawn_lines rs (ok o) =
+drawn_lines rs (Ok o) =
     layers_lines (text_layer rs) (thin_layer rs) (body_layer rs o.body) (grid_layer rs o.body) (widest rs) (length rs)
     ++ regions_lines o (grid_layer rs o.body) (widest rs) (length rs) (region_texts_of (text_layer rs) (thin_layer rs) (widest rs) (length rs))
-drawn_lines rs (refused r) = refused_line (numbers r)
+drawn_lines rs (Err r) = refused_line (numbers r)
 
 -- the lines for the bytes of a sheet
 unfoldable pub drawing_lines : List ℕ → List ℕ

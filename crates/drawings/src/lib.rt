@@ -13,11 +13,8 @@ ghost use Rattle.plane_lines.specs.Planes.{plane_bytes};
 ghost use Rattle.lines.specs.Room.{line_bytes};
 ghost use Rattle.drawings.specs.DrawingLines.{plane_printed, regions_lines, regions_bytes, drawing_lines};
 
-use canvas::Drawing;
 use model::limits::CANVAS_SIZE;
 use outline::Outline;
-use step::PlaneMade;
-use text_planes::RegionsRead;
 
 // The plane of GRID, whose regions are known; or why there is none.
 fn put_step(
@@ -36,8 +33,8 @@ fn put_step(
     let mut found = [0u32; CANVAS_SIZE];
     let mut plane = [0u32; 4160];
     match step::make_plane(o, grid, w, h, rects, count, &mut found, &mut plane) {
-        PlaneMade::Made(n) => plane_lines::put_plane(out, at, &plane, n),
-        PlaneMade::NotMade(r) => print::put_refusal(out, at, r),
+        Ok(n) => plane_lines::put_plane(out, at, &plane, n),
+        Err(r) => print::put_refusal(out, at, r),
     }
 }
 
@@ -59,12 +56,13 @@ fn put_regions(
     let mut bytes = [0u8; 61444];
     let mut spans = [0u32; 2048];
     match text_planes::read_regions(text, thins, w, h, &mut rects, &mut bytes, &mut spans) {
-        RegionsRead::Read(n, _) => {
+        Ok(g) => {
+            let n = g.count;
             let a = sketch::put_regions(out, at, &rects, &bytes, &spans, n);
             let b = sketch::put_name(out, a, &bytes, &spans, n, o.named);
             put_step(out, b, o, grid, w, h, &rects, n)
         }
-        RegionsRead::NotRead(r) => print::put_refusal(out, at, r),
+        Err(r) => print::put_refusal(out, at, r),
     }
 }
 
@@ -78,10 +76,12 @@ pub fn put_drawing(out: &mut [u8], at: usize, s: &[u8]) -> usize
     let mut bodies = [0u32; CANVAS_SIZE];
     let mut grid = [0u32; CANVAS_SIZE];
     match canvas::draw_sheet(s, &mut text, &mut thins, &mut bodies, &mut grid) {
-        Drawing::Drawn(h, w, _, o) => {
+        Ok(d) => {
+            let h = d.rows;
+            let w = d.columns;
             let a = sketch::put_layers(out, at, &text, &thins, &bodies, &grid, w, h);
-            put_regions(out, a, o, &text, &thins, &grid, w, h)
+            put_regions(out, a, d.outline, &text, &thins, &grid, w, h)
         }
-        Drawing::NotDrawn(r) => print::put_refusal(out, at, r),
+        Err(r) => print::put_refusal(out, at, r),
     }
 }

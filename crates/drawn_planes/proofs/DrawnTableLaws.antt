@@ -1,13 +1,13 @@
 -- The table of a drawing, from its outline, its layers and its plane.
+use Rattle.std.specs.Prelude.{Ok, Err, Some}
 use mathlib.Core.Path.{◌≡◌, refl, sym, ap, ◌∙◌}
 use mathlib.Core.Bool.{Bool, true, false}
 use mathlib.Core.List.{List, [], ◌∷◌, map}
-use mathlib.Core.Option.{some}
 use Prim.Native.Nat.{ℕ, ◌+◌, ◌-◌, ◌*◌, ◌/◌, ◌≤◌, ◌<◌}
 use native.Mathlib.Omega.{arith}
 use lib.Dec.{ltb}
 use lib.ListN.{length, get_or, take, drop, length-take}
-use Rattle.lists.specs.Answer.{ok, refused, ◌>>=◌}
+use Rattle.lists.specs.Answer.{◌>>=◌}
 use Rattle.lists.specs.Picture.{Picture, canvas}
 use Rattle.lists.proofs.AnswerLaws.{then_ok}
 use Rattle.lists.proofs.Parts.{part_part}
@@ -42,18 +42,18 @@ use Rattle.policies.proofs.DrawnWithin.{read, gathered}
 use Rattle.policies.proofs.SheetDrawn.{drawn-fits, drawn_outline, sheet-drawn}
 use Rattle.drawn_planes.specs.DrawnTable.{NamedPlane, named_plane, named_policy}
 
-ok_same : {A : Type 0} {a b : A} → ◌≡◌ {A = Reading A} (ok a) (ok b) → a ≡ b
+ok_same : {A : Type 0} {a b : A} → ◌≡◌ {A = Reading A} (Ok a) (Ok b) → a ≡ b
 ok_same e = cc
 
 -- where there is a name, its frame was found
-named-frame : (p : Picture) (w h row : ℕ) → named_of p w h row ≡ ok true → (r : Rect) × (frame_of kind.name p w h 0 0 ≡ ok r)
+named-frame : (p : Picture) (w h row : ℕ) → named_of p w h row ≡ Ok true → (r : Rect) × (frame_of kind.name p w h 0 0 ≡ Ok r)
 unfolding named_by
 named-frame p w h row e =
     by_flag (ltb 0 row)
-    (λ t. let a = then_ok (frame_of kind.name p w h 0 0) (λ _. ok true) true (rw t at e) in (a.0, a.1))
-    (λ t. let z : ◌≡◌ {A = Reading Bool} (ok false) (ok true) = rw t at e in true_false {t = false} (let q : false ≡ true = cc in q) refl)
+    (λ t. let a = then_ok (frame_of kind.name p w h 0 0) (λ _. Ok true) true (rw t at e) in (a.0, a.1))
+    (λ t. let z : ◌≡◌ {A = Reading Bool} (Ok false) (Ok true) = rw t at e in true_false {t = false} (let q : false ≡ true = cc in q) refl)
 
-outline_frame : (p : Picture) (w h : ℕ) (o : Outline) → outline_of p w h ≡ ok o → o.named ≡ true → (r : Rect) × (frame_of kind.name p w h 0 0 ≡ ok r)
+outline_frame : (p : Picture) (w h : ℕ) (o : Outline) → outline_of p w h ≡ Ok o → o.named ≡ true → (r : Rect) × (frame_of kind.name p w h 0 0 ≡ Ok r)
 unfolding outline_by table_of
 outline_frame p w h o e n =
     let a = then_ok (search_of _ p w h) _ o e in
@@ -62,16 +62,16 @@ outline_frame p w h o e n =
     let d = then_ok (search_of _ p w h) _ o c.2 in
     let f = then_ok (body_of p w h _ _) _ o d.2 in
     let z : c.0 ≡ true = ap (λ (x : Outline). x.named) (ok_same f.2) ∙ n in
-    named-frame p w h (b.0 / w) (c.1 ∙ ap ok z)
+    named-frame p w h (b.0 / w) (c.1 ∙ ap Ok z)
 
 -- the name's frame, whose text is the first region's
 record NameFirst (rs : List (List ℕ)) (t : TextPlane) : Type 0 where
   frame : Rect
-  found : frame_of kind.name (text_layer rs) (widest rs) (length rs) 0 0 ≡ ok frame
+  found : frame_of kind.name (text_layer rs) (widest rs) (length rs) 0 0 ≡ Ok frame
   others : List (List ℕ)
   texts : t.texts ≡ text_of (text_layer rs) frame ∷ others
 
-name-first : (rs : List (List ℕ)) (o : Outline) (t : TextPlane) → drawing_of rs ≡ ok o → o.named ≡ true → drawn_plane_by frame_of rs o ≡ ok t → NameFirst rs t
+name-first : (rs : List (List ℕ)) (o : Outline) (t : TextPlane) → drawing_of rs ≡ Ok o → o.named ≡ true → drawn_plane_by frame_of rs o ≡ Ok t → NameFirst rs t
 name-first rs o t e n f =
     let p = text_layer rs in
     let g = outline_frame p (widest rs) (length rs) o (drawn_outline frame_of rs o e) n in
@@ -86,18 +86,18 @@ name-first rs o t e n f =
     }
 
 -- a drawing's name is its first region's text
-name-read : (rs : List (List ℕ)) (o : Outline) (t : TextPlane) → drawing_of rs ≡ ok o → drawn_plane_by frame_of rs o ≡ ok t
-    → name_by frame_of rs o.named ≡ ok (name_of o.named (text_in t))
+name-read : (rs : List (List ℕ)) (o : Outline) (t : TextPlane) → drawing_of rs ≡ Ok o → drawn_plane_by frame_of rs o ≡ Ok t
+    → name_by frame_of rs o.named ≡ Ok (name_of o.named (text_in t))
 name-read rs o t e f = go o.named refl
   where
-    go : (n : Bool) → o.named ≡ n → name_by frame_of rs n ≡ ok (name_of n (text_in t))
+    go : (n : Bool) → o.named ≡ n → name_by frame_of rs n ≡ Ok (name_of n (text_in t))
     go true q =
         let m = name-first rs o t e q f in
-        rw m.found (ap (λ (ts : List (List ℕ)). ok (some (get_or ts 0 []))) (sym m.texts))
+        rw m.found (ap (λ (ts : List (List ℕ)). Ok (Some (get_or ts 0 []))) (sym m.texts))
     go false q = refl
 
 -- a drawing with a name has a region
-some-text : (rs : List (List ℕ)) (o : Outline) (t : TextPlane) → drawing_of rs ≡ ok o → o.named ≡ true → drawn_plane_by frame_of rs o ≡ ok t → 0 < length t.texts
+some-text : (rs : List (List ℕ)) (o : Outline) (t : TextPlane) → drawing_of rs ≡ Ok o → o.named ≡ true → drawn_plane_by frame_of rs o ≡ Ok t → 0 < length t.texts
 some-text rs o t e n f = omega (arith, ap length (name-first rs o t e n f).texts)
 
 -- texts that lie in the front of the bytes
@@ -114,7 +114,7 @@ front_texts bytes ss count h =
     build-same count (text_at (take text_bytes bytes) ss) (text_at bytes ss) (λ k l. front_part bytes text_bytes (offset_at ss k) (length_at ss k) (h.inside k l))
 
 -- a sheet that is drawn, with its layers
-module _ (s : List ℕ) (o : Outline) (e : ok o ≡ sheet_of s) {h w : ℕ} {t m b g : List ℕ} (l : Shown (rows_at s 0) h w o.body t m b g) where
+module _ (s : List ℕ) (o : Outline) (e : Ok o ≡ sheet_of s) {h w : ℕ} {t m b g : List ℕ} (l : Shown (rows_at s 0) h w o.body t m b g) where
   size_in : (w ≤ 160) × (h ≤ 96) × (h * w ≤ canvas_size)
   size_in =
       let f = fits-size (rows_at s 0) (drawn-fits frame_of (rows_at s 0) o (sheet-drawn frame_of s o (sym e))) in
@@ -138,13 +138,13 @@ module _ (s : List ℕ) (o : Outline) (e : ok o ≡ sheet_of s) {h w : ℕ} {t m
   as_drawn : text_plane_of o (canvas w h t) (canvas w h m) (canvas w h g) w h ≡ drawn_plane_by frame_of (rows_at s 0) o
   as_drawn = rw (l.text, l.thin, l.grid, l.columns, l.rows)
 
-  pub no_plane : (r : Refusal) → refused r ≡ text_plane_of o (canvas w h t) (canvas w h m) (canvas w h g) w h → refused r ≡ named_plane s
+  pub no_plane : (r : Refusal) → Err r ≡ text_plane_of o (canvas w h t) (canvas w h m) (canvas w h g) w h → Err r ≡ named_plane s
   unfolding named_plane
   no_plane r q = rw (← e, ← as_drawn, ← q)
 
   module _ (d : List ℕ) (n : ℕ) (bytes ss : List ℕ) (count : ℕ) (k : Held d n (take text_bytes bytes) ss count)
-      (q : ok (record { plane = plane_in d n; texts = texts_in bytes ss count }) ≡ text_plane_of o (canvas w h t) (canvas w h m) (canvas w h g) w h) where
-    pub with_plane : ok (record { named = o.named; read = record { plane = plane_in d n; texts = texts_in (take text_bytes bytes) ss count } }) ≡ named_plane s
+      (q : Ok (record { plane = plane_in d n; texts = texts_in bytes ss count }) ≡ text_plane_of o (canvas w h t) (canvas w h m) (canvas w h g) w h) where
+    pub with_plane : Ok (record { named = o.named; read = record { plane = plane_in d n; texts = texts_in (take text_bytes bytes) ss count } }) ≡ named_plane s
     unfolding named_plane
     with_plane = rw (front_texts bytes ss count k, ← e, ← as_drawn, ← q)
 
@@ -159,7 +159,7 @@ module _ (s : List ℕ) (o : Outline) (e : ok o ≡ sheet_of s) {h w : ℕ} {t m
           inside = k.inside;
         }
 
-pub not_drawn : (s : List ℕ) (r : Refusal) → refused r ≡ sheet_of s → refused r ≡ named_plane s
+pub not_drawn : (s : List ℕ) (r : Refusal) → Err r ≡ sheet_of s → Err r ≡ named_plane s
 unfolding named_plane
 not_drawn s r e = rw (← e)
 
@@ -168,15 +168,15 @@ pub first-region : (s : List ℕ) → walked_policy s ≡ named_policy (named_pl
 unfolding policy_by named_plane
 first-region s = go (sheet_of s) refl
   where
-    planed : (o : Outline) → sheet_of s ≡ ok o → (m : Reading TextPlane) → drawn_plane_by frame_of (rows_at s 0) o ≡ m
+    planed : (o : Outline) → sheet_of s ≡ Ok o → (m : Reading TextPlane) → drawn_plane_by frame_of (rows_at s 0) o ≡ m
         → ◌>>=◌ m (λ t. ◌>>=◌ (name_by frame_of (rows_at s 0) o.named) (λ name. stated_policy name (text_in t) t.plane))
-        ≡ ◌>>=◌ (◌>>=◌ {B = NamedPlane} m (λ t. ok (record { named = o.named; read = t }))) (λ p. stated_policy (name_of p.named (text_in p.read)) (text_in p.read) p.read.plane)
-    planed o e (ok t) f = rw (name-read (rows_at s 0) o t (sheet-drawn frame_of s o e) f)
-    planed o e (refused r) f = refl
+        ≡ ◌>>=◌ (◌>>=◌ {B = NamedPlane} m (λ t. Ok (record { named = o.named; read = t }))) (λ p. stated_policy (name_of p.named (text_in p.read)) (text_in p.read) p.read.plane)
+    planed o e (Ok t) f = rw (name-read (rows_at s 0) o t (sheet-drawn frame_of s o e) f)
+    planed o e (Err r) f = refl
 
     go : (m : Reading Outline) → sheet_of s ≡ m
         → ◌>>=◌ m (λ o. ◌>>=◌ (drawn_plane_by frame_of (rows_at s 0) o) (λ t. ◌>>=◌ (name_by frame_of (rows_at s 0) o.named) (λ name. stated_policy name (text_in t) t.plane)))
-        ≡ ◌>>=◌ (◌>>=◌ {B = NamedPlane} m (λ o. ◌>>=◌ (drawn_plane_by frame_of (rows_at s 0) o) (λ t. ok (record { named = o.named; read = t }))))
+        ≡ ◌>>=◌ (◌>>=◌ {B = NamedPlane} m (λ o. ◌>>=◌ (drawn_plane_by frame_of (rows_at s 0) o) (λ t. Ok (record { named = o.named; read = t }))))
         (λ p. stated_policy (name_of p.named (text_in p.read)) (text_in p.read) p.read.plane)
-    go (ok o) e = planed o e (drawn_plane_by frame_of (rows_at s 0) o) refl
-    go (refused r) e = refl
+    go (Ok o) e = planed o e (drawn_plane_by frame_of (rows_at s 0) o) refl
+    go (Err r) e = refl

@@ -1,6 +1,6 @@
 -- The plane of a drawing, and the slices that its table is made in.
-use Rattle.std.specs.Prelude.{Bool, List, ℕ, ◌+◌, ◌*◌, ◌≤◌, length, take}
-use Rattle.lists.specs.Answer.{ok, refused, ◌>>=◌}
+use Rattle.std.specs.Prelude.{Bool, List, ℕ, ◌+◌, ◌*◌, ◌≤◌, length, take, Ok, Err}
+use Rattle.lists.specs.Answer.{◌>>=◌}
 use Rattle.model.specs.Limits.{region_count, text_bytes}
 use Rattle.model.specs.Refusals.{Reading}
 use Rattle.cells.specs.Held.{Held}
@@ -16,7 +16,6 @@ use Rattle.tables.specs.NamedTable.{name_of, NameIn}
 use Rattle.policies.specs.DrawnPolicy.{drawn_plane_by}
 use Rattle.policies.specs.LentPolicy.{text_in}
 use Rattle.drawn_planes.specs.declared.DrawnRows.{DrawnRows}
-use Rattle.drawn_planes.specs.declared.DrawnRows.TheVariants.{Rows, NotDrawn}
 
 -- a drawing's plane, and whether the drawing has a name
 pub record NamedPlane : Type 0 where
@@ -27,7 +26,7 @@ unfoldable pub named_plane : List ℕ → Reading NamedPlane
 named_plane s = do
   o ← sheet_of s
   t ← drawn_plane_by frame_of (rows_at s 0) o
-  ok (record { named = o.named; read = t })
+  Ok (record { named = o.named; read = t })
 
 -- what it states, with the first region's text for a name
 abbrev pub named_policy : Reading NamedPlane → Reading Policy
@@ -36,15 +35,15 @@ named_policy m = do
   stated_policy (name_of p.named (text_in p.read)) (text_in p.read) p.read.plane
 
 -- an answer's plane, with the slices that hold it
-abbrev pub drawn_in : DrawnRows → List ℕ → List ℕ → List ℕ → Reading NamedPlane
-drawn_in (Rows n count named) plane bytes spans =
-    ok (record { named = named; read = record { plane = plane_in plane n; texts = texts_in (take text_bytes bytes) spans count } })
-drawn_in (NotDrawn r) plane bytes spans = refused r
+abbrev pub drawn_in : Reading DrawnRows → List ℕ → List ℕ → List ℕ → Reading NamedPlane
+drawn_in (Ok d) plane bytes spans =
+    Ok (record { named = d.named; read = record { plane = plane_in plane d.rows; texts = texts_in (take text_bytes bytes) spans d.count } })
+drawn_in (Err r) plane bytes spans = Err r
 
 -- its texts lie in the first 61,440 bytes, the name's among them
-abbrev pub DrawnHeld : DrawnRows → List ℕ → List ℕ → List ℕ → Type 0
-DrawnHeld (Rows n count named) plane bytes spans = Held plane n (take text_bytes bytes) spans count × NameIn named (take text_bytes bytes) spans count
-DrawnHeld (NotDrawn r) plane bytes spans = Unit {0}
+abbrev pub DrawnHeld : Reading DrawnRows → List ℕ → List ℕ → List ℕ → Type 0
+DrawnHeld (Ok d) plane bytes spans = Held plane d.rows (take text_bytes bytes) spans d.count × NameIn d.named (take text_bytes bytes) spans d.count
+DrawnHeld (Err r) plane bytes spans = Unit {0}
 
 -- the work slices: four layers, and the texts of the regions
 pub record DrawnRoom (t m b g bytes spans : List ℕ) : Type 0 where

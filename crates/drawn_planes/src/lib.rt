@@ -4,15 +4,14 @@
 ghost use Rattle.std.specs.Prelude.{◌≡◌};
 ghost use Rattle.drawn_planes.specs.DrawnTable.{named_plane, drawn_in, DrawnHeld, DrawnRoom};
 
-use canvas::Drawing;
 use model::Refusal;
-use text_planes::PlaneRead;
 
-// So many rows of a plane, with so many regions, and whether the first of these is the name's; or a refusal.
+// So many rows of a plane, with so many regions, and whether the first of these is the name's.
 #[derive(Clone, Copy)]
-pub enum DrawnRows {
-    Rows(usize, usize, bool),
-    NotDrawn(Refusal),
+pub struct DrawnRows {
+    pub rows: usize,
+    pub count: usize,
+    pub named: bool,
 }
 
 // The plane of a drawing, with the texts of its regions.
@@ -24,18 +23,19 @@ pub fn drawn_plane(
     grid: &mut [u32],
     bytes: &mut [u8],
     spans: &mut [u32],
-) -> DrawnRows
+) -> Result<DrawnRows, Refusal>
     requires { DrawnRoom text.old thins.old bodies.old grid.old bytes.old spans.old }
     ensures plane { drawn_in result text.new bytes.new spans.new ≡ named_plane s.now }
     ensures held { DrawnHeld result text.new bytes.new spans.new }
 {
-    match canvas::draw_sheet(s, text, thins, bodies, grid) {
-        Drawing::Drawn(rows, columns, _, o) => match text_planes::read_plane(
-            o, text, thins, grid, bodies, columns, rows, bytes, spans,
-        ) {
-            PlaneRead::Rows(n, count) => DrawnRows::Rows(n, count, o.named),
-            PlaneRead::NoPlane(r) => DrawnRows::NotDrawn(r),
-        },
-        Drawing::NotDrawn(r) => DrawnRows::NotDrawn(r),
-    }
+    let d = canvas::draw_sheet(s, text, thins, bodies, grid)?;
+    let o = d.outline;
+    let p = text_planes::read_plane(
+        o, text, thins, grid, bodies, d.columns, d.rows, bytes, spans,
+    )?;
+    Ok(DrawnRows {
+        rows: p.rows,
+        count: p.count,
+        named: o.named,
+    })
 }

@@ -11,9 +11,9 @@ ghost use Rattle.records.specs.Outcomes.{outcome_of, record_of};
 ghost use Rattle.drawn_planes.specs.DrawnTable.{named_policy, drawn_in, DrawnHeld, DrawnRoom};
 
 use drawn_planes::DrawnRows;
+use model::Refusal;
 use model::limits::TEXT_BYTES;
-use recognizer::Recognized;
-use records::Outcome;
+use recognizer::SlotTable;
 
 // The first 61,440 bytes, in which the texts of a drawing lie.
 fn texts_in(bytes: &[u8]) -> &[u8]
@@ -25,34 +25,37 @@ fn texts_in(bytes: &[u8]) -> &[u8]
 
 // The table of a plane that is drawn, or why there is none.
 fn table_of(
-    d: DrawnRows,
+    d: Result<DrawnRows, Refusal>,
     plane: &[u32],
     bytes: &[u8],
     spans: &[u32],
     upright: &mut [u32],
     slots: &mut [u32],
-) -> Recognized
+) -> Result<SlotTable, Refusal>
     requires { DrawnHeld d plane.now bytes.now spans.now × (text_bytes ≤ length bytes.now) × (plane_size ≤ length upright.old) × (3 * slot_limit ≤ length slots.old) }
     ensures table { named_table result (take text_bytes bytes.now) slots.new ≡ table_read (named_policy (drawn_in d plane.now bytes.now spans.now)) }
     ensures held { AnswerHeld result (take text_bytes bytes.now) slots.new }
 {
-    match d {
-        DrawnRows::Rows(n, count, named) => tables::plane_table(
-            plane,
-            n,
-            texts_in(bytes),
-            spans,
-            count,
-            named,
-            upright,
-            slots,
-        ),
-        DrawnRows::NotDrawn(r) => Recognized::NotRecognized(r),
-    }
+    let d = d?;
+    tables::plane_table(
+        plane,
+        d.rows,
+        texts_in(bytes),
+        spans,
+        d.count,
+        d.named,
+        upright,
+        slots,
+    )
 }
 
 // The record of a table whose texts lie in the first 61,440 bytes, or its refusal.
-fn write_drawn(t: Recognized, bytes: &[u8], slots: &[u32], out: &mut [u8]) -> Outcome
+fn write_drawn(
+    t: Result<SlotTable, Refusal>,
+    bytes: &[u8],
+    slots: &[u32],
+    out: &mut [u8],
+) -> Result<usize, Refusal>
     requires { AnswerHeld t (take text_bytes bytes.now) slots.now × (text_bytes ≤ length bytes.now) × (3 * slot_limit ≤ length slots.now) }
     ensures outcome { result ≡ outcome_of (named_table t (take text_bytes bytes.now) slots.now) (length out.old) }
     ensures out { out.new ≡ record_of (named_table t (take text_bytes bytes.now) slots.now) out.old }
@@ -71,7 +74,7 @@ pub fn sheet_record(
     spans: &mut [u32],
     bytes: &mut [u8],
     out: &mut [u8],
-) -> Outcome
+) -> Result<usize, Refusal>
     requires { DrawnRoom text.old thins.old bodies.old grid.old bytes.old spans.old }
     ensures outcome { result ≡ outcome_of (table_read (walked_policy s.now)) (length out.old) }
     ensures out { out.new ≡ record_of (table_read (walked_policy s.now)) out.old }

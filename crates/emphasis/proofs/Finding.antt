@@ -8,11 +8,12 @@ use borrow.Author.Tests.{lt-ltb, le-ltb}
 use lib.ListN.{length, take, drop, length-drop}
 use lib.Seq.{length-take-le}
 use Rattle.lists.proofs.Parts.{part_part}
-use Rattle.lists.proofs.Tests.{by_flag, true_false}
+use Rattle.lists.proofs.Tests.{by_flag}
 use Rattle.white_space.specs.Trim.{trim_start_utf8, trim_utf8, PartIn}
 use Rattle.emphasis.specs.Commas.{parts}
 use Rattle.emphasis.specs.Emphasis.{Choice, plain, marked, marks, placed, or_else, starts_with, ends_with, strip_start, strip, emphasised, first_marked, choice_of}
-use Rattle.emphasis.specs.Found.{parts_behind, PartEnd, seen, MarkOf, FoundIn}
+use Rattle.emphasis.specs.Found.{parts_behind, PartEnd, Bare, Emphasised}
+use Rattle.emphasis.specs.declared.Mark.{Mark}
 use Rattle.emphasis.proofs.Stripping.{strip-length}
 
 -- the part of s from a up to e
@@ -33,8 +34,8 @@ pub mark-none : (p : List ℕ) → emphasised [] p ≡ plain
 unfolding emphasised
 mark-none p = refl
 
-pub mark-by : {p : List ℕ} {c d : Choice} {hit : Bool} {from to : ℕ} → d ≡ c → MarkOf p c hit from to → MarkOf p d hit from to
-mark-by e m = record { choice = e ∙ m.choice; ordered = m.ordered; inside = m.inside }
+pub mark-by : {p : List ℕ} {c d : Choice} {m : Mark} → d ≡ c → Bare p c m → Bare p d m
+mark-by e b = record { choice = e ∙ b.choice; ordered = b.ordered; inside = b.inside }
 
 -- a part in emphasis is not empty, and its bare text is at most as long
 abbrev pub Sized : Choice → Type 0
@@ -72,66 +73,52 @@ pub finding_start : {s : List ℕ} → Finding s 0
 finding_start {s} = record { inside = omega arith; same = refl }
 
 -- the part from `at` up to `end` stands trimmed from `from` up to `to`, and the marks are tried on it
-module _ {s : List ℕ} {at end from to f t : ℕ} {hit : Bool} (i : Finding s at) (k : PartEnd s at end)
-    (w : PartIn s at end (trim_start_utf8 (between s at end)) (trim_utf8 (between s at end)) from to)
-    (m : MarkOf (between s from to) (emphasised marks (between s from to)) hit f t) where
-  here : choice_of s
-      ≡ or_else (seen hit (from + f) (between s from to) (between (between s from to) f t))
-      (first_marked (end + 1) (parts_behind s end))
+module _ {s : List ℕ} {at end from to : ℕ} (i : Finding s at) (k : PartEnd s at end)
+    (w : PartIn s at end (trim_start_utf8 (between s at end)) (trim_utf8 (between s at end)) from to) where
+  here : {c : Choice} → emphasised marks (between s from to) ≡ c
+      → choice_of s ≡ or_else (placed from c) (first_marked (end + 1) (parts_behind s end))
   unfolding first_marked
-  here =
+  here h =
       let l : length (between s at end) ≡ end - at = length-take-le (end - at) (drop at s) (omega (arith, length-drop at s, k.low, k.high)) in
       let a : at + (length (between s at end) - length (trim_start_utf8 (between s at end))) ≡ from =
       omega (arith, k.low, w.start, w.low) in
       let b : at + length (between s at end) + 1 ≡ end + 1 = omega (arith, k.low) in
-      let e = ap (emphasised marks) (sym w.text) ∙ m.choice in
-      i.same ∙ ap (first_marked at) k.same ∙ rw (a, b, e) (go hit)
-    where
-      go : (h : Bool)
-          → or_else (placed from (seen h f (between s from to) (between (between s from to) f t))) (first_marked (end + 1) (parts_behind s end))
-          ≡ or_else (seen h (from + f) (between s from to) (between (between s from to) f t)) (first_marked (end + 1) (parts_behind s end))
-      go true = refl
-      go false = refl
+      let e = ap (emphasised marks) (sym w.text) ∙ h in
+      i.same ∙ ap (first_marked at) k.same ∙ rw (a, b, e)
 
   long : length (between s from to) ≡ to - from
   long = length-take-le (to - from) (drop from s) (omega (arith, length-drop from s, w.high, k.high))
 
-  pub finding_fits : from + t ≤ to
-  finding_fits = omega (arith, long, m.inside, w.ordered)
+  -- its bare text stands at m
+  module _ {m : Mark} (b : Bare (between s from to) (emphasised marks (between s from to)) m) where
+    pub finding_fits : from + m.to ≤ to
+    finding_fits = omega (arith, long, b.inside, w.ordered)
 
-  pub finding_hit : hit ≡ true → FoundIn s true from to (from + f) (from + t)
-  finding_hit h =
-      let l = long in
-      let b = m.inside in
-      let o = m.ordered in
-      let g = w.high in
-      let j = k.high in
-      let q = finding_fits in
-      let e : emphasised marks (between s from to) ≡ marked f (between s from to) (between (between s from to) f t) =
-      m.choice ∙ rw h in
-      let z : Sized (marked f (between s from to) (between (between s from to) f t)) = rw e at (marks-sized (between s from to)) in
-      record {
-        choice = here ∙ rw h (ap (marked (from + f) (between s from to)) (sym (part_part s from (to - from) f t o (omega arith))));
-        low = omega arith;
-        ordered = omega arith;
-        high = omega arith;
-        inside = omega arith;
-        some = λ _. omega arith;
-      }
+    pub finding_hit : Emphasised s (record { from = from; to = to; a = from + m.from; b = from + m.to })
+    finding_hit =
+        let l = long in
+        let n = b.inside in
+        let o = b.ordered in
+        let g = w.high in
+        let j = k.high in
+        let q = finding_fits in
+        let z : Sized (marked m.from (between s from to) (between (between s from to) m.from m.to)) = rw b.choice at (marks-sized (between s from to)) in
+        record {
+          choice = here b.choice ∙ ap (marked (from + m.from) (between s from to)) (sym (part_part s from (to - from) m.from m.to o (omega arith)));
+          low = omega arith;
+          ordered = omega arith;
+          high = omega arith;
+          inside = omega arith;
+          some = omega arith;
+        }
 
-  pub finding_last : hit ≡ false → end ≡ length s → FoundIn s false 0 0 0 0
-  unfolding first_marked
-  finding_last h e =
-      record {
-        choice = here ∙ rw (h, le-ltb end (length s) (omega arith));
-        low = omega arith;
-        ordered = omega arith;
-        high = omega arith;
-        inside = omega arith;
-        some = λ (q : false ≡ true). true_false q refl;
-      }
+  -- it has no emphasis
+  module _ (n : emphasised marks (between s from to) ≡ plain) where
+    pub finding_last : end ≡ length s → choice_of s ≡ plain
+    unfolding first_marked
+    finding_last e = here n ∙ rw (le-ltb end (length s) (omega arith))
 
-  pub finding_more : hit ≡ false → (end ≡ length s → ⊥) → Finding s (end + 1)
-  finding_more h n =
-      let l : end < length s = omega (arith, k.high) in
-      record { inside = omega arith; same = here ∙ rw (h, lt-ltb end (length s) l) }
+    pub finding_more : (end ≡ length s → ⊥) → Finding s (end + 1)
+    finding_more h =
+        let l : end < length s = omega (arith, k.high) in
+        record { inside = omega arith; same = here n ∙ rw (lt-ltb end (length s) l) }

@@ -10,7 +10,8 @@ use lib.Seq.{drop-nil, drop-drop, take-take, length-take-le}
 use Rattle.lists.proofs.Parts.{part_end}
 use Rattle.lists.proofs.Tests.{by_flag}
 use Rattle.emphasis.specs.Emphasis.{starts_with, ends_with, strip_start, strip_end, strip, marked}
-use Rattle.emphasis.specs.Found.{MarkOf}
+use Rattle.emphasis.specs.Found.{Bare}
+use Rattle.emphasis.specs.declared.Mark.{Mark}
 use Rattle.emphasis.proofs.StartsWith.{starts_inside, ends-fits}
 
 skip_start : (k : ℕ) (e s : List ℕ) → strip_start k e s ≡ strip_start 0 e (drop k s)
@@ -125,14 +126,14 @@ module _ {e p : List ℕ} {from to : ℕ} (i : Trailing e p from to) where
               record { some = n; left = k; low = omega arith; inside = omega arith; enough = omega arith; same = q ∙ w }
 
 -- the bare text stands between the two
-pub bare_mark : (e p : List ℕ) {from to : ℕ} → (from ≤ length p) × (drop from p ≡ strip_start 0 e p)
-    → (from ≤ to) × (to ≤ length p) × (take (to - from) (drop from p) ≡ strip_end (length (drop from p)) e (drop from p))
-    → MarkOf p (marked (length p - length (strip_start 0 e p)) p (strip e p)) true from to
+pub bare_mark : (e p : List ℕ) {m : Mark} → (m.from ≤ length p) × (drop m.from p ≡ strip_start 0 e p)
+    → (m.from ≤ m.to) × (m.to ≤ length p) × (take (m.to - m.from) (drop m.from p) ≡ strip_end (length (drop m.from p)) e (drop m.from p))
+    → Bare p (marked (length p - length (strip_start 0 e p)) p (strip e p)) m
 unfolding strip
-bare_mark e p {from} {to} a b =
-    let l : length (strip_start 0 e p) ≡ length p - from = ap length (sym a.1) ∙ length-drop from p in
-    let f : length p - length (strip_start 0 e p) ≡ from = omega (arith, a.0) in
-    let s : strip_end (length (strip_start 0 e p)) e (strip_start 0 e p) ≡ take (to - from) (drop from p) =
+bare_mark e p {m} a b =
+    let l : length (strip_start 0 e p) ≡ length p - m.from = ap length (sym a.1) ∙ length-drop m.from p in
+    let f : length p - length (strip_start 0 e p) ≡ m.from = omega (arith, a.0) in
+    let s : strip_end (length (strip_start 0 e p)) e (strip_start 0 e p) ≡ take (m.to - m.from) (drop m.from p) =
     sym (b.2 ∙ ap (λ (x : List ℕ). strip_end (length x) e x) a.1) in
     record { choice = cc; ordered = b.0; inside = b.1 }
 

@@ -1,8 +1,10 @@
 -- What the functions of the crate answer: no caller of the value split needs these.
-use Rattle.std.specs.Prelude.{Bool, true, false, List, [], ◌∷◌, ◌≡◌, ℕ, ◌+◌, ◌-◌, ◌≤◌, ◌<◌, ltb, length, take, drop}
+use Rattle.std.specs.Prelude.{List, [], ◌∷◌, ◌≡◌, ℕ, ◌+◌, ◌-◌, ◌≤◌, ◌<◌, ltb, length, take, drop, Option, None, Some}
 use Rattle.lists.specs.Choose.{choose}
 use Rattle.emphasis.specs.Commas.{parts}
 use Rattle.emphasis.specs.Emphasis.{Choice, plain, marked, choice_of}
+use Rattle.emphasis.specs.declared.Found.{Found}
+use Rattle.emphasis.specs.declared.Mark.{Mark}
 
 -- the parts behind a comma at index r; none where the text ends there
 abbrev pub parts_behind : List ℕ → ℕ → List (List ℕ)
@@ -14,22 +16,27 @@ pub record PartEnd (s : List ℕ) (at r : ℕ) : Type 0 where
   pub high : r ≤ length s
   pub same : parts (drop at s) ≡ take (r - at) (drop at s) ∷ parts_behind s r
 
--- a choice by a flag
-abbrev pub seen : Bool → ℕ → List ℕ → List ℕ → Choice
-seen true place part bare = marked place part bare
-seen false place part bare = plain
+-- the part p stands without its emphasis at m
+pub record Bare (p : List ℕ) (c : Choice) (m : Mark) : Type 0 where
+  pub choice : c ≡ marked m.from p (take (m.to - m.from) (drop m.from p))
+  pub ordered : m.from ≤ m.to
+  pub inside : m.to ≤ length p
 
--- where the part p stands without its emphasis, if it has one
-pub record MarkOf (p : List ℕ) (c : Choice) (hit : Bool) (from to : ℕ) : Type 0 where
-  pub choice : c ≡ seen hit from p (take (to - from) (drop from p))
-  pub ordered : from ≤ to
-  pub inside : to ≤ length p
+-- where it does, if it has an emphasis
+abbrev pub MarkOf : List ℕ → Choice → Option Mark → Type 0
+MarkOf p c None = c ≡ plain
+MarkOf p c (Some m) = Bare p c m
 
 -- the first part in emphasis stands at `from` up to `to`, and its bare text at a up to b
-pub record FoundIn (t : List ℕ) (hit : Bool) (from to a b : ℕ) : Type 0 where
-  pub choice : choice_of t ≡ seen hit a (take (to - from) (drop from t)) (take (b - a) (drop a t))
-  pub low : from ≤ a
-  pub ordered : a ≤ b
-  pub high : b ≤ to
-  pub inside : to ≤ length t
-  pub some : hit ≡ true → from < to
+pub record Emphasised (t : List ℕ) (f : Found) : Type 0 where
+  pub choice : choice_of t ≡ marked f.a (take (f.to - f.from) (drop f.from t)) (take (f.b - f.a) (drop f.a t))
+  pub low : f.from ≤ f.a
+  pub ordered : f.a ≤ f.b
+  pub high : f.b ≤ f.to
+  pub inside : f.to ≤ length t
+  pub some : f.from < f.to
+
+-- where the first one does, if there is one
+abbrev pub FoundIn : List ℕ → Option Found → Type 0
+FoundIn t None = choice_of t ≡ plain
+FoundIn t (Some f) = Emphasised t f

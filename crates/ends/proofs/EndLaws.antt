@@ -1,29 +1,27 @@
 -- The end of a call, from what it reads and what it clears.
+use Rattle.std.specs.Prelude.{Err, ℕ}
 use mathlib.Core.List.{List, [], ◌∷◌, map}
 use mathlib.Core.Path.{◌≡◌, refl}
 use Prim.Native.Nat.{ℕ}
 use lib.ListN.{length}
-use Rattle.lists.specs.Answer.{refused}
 use Rattle.lists.specs.Zeros.{zeros}
 use Rattle.model.specs.Refusals.{Reading}
 use Rattle.model.specs.declared.Refusal.{Refusal}
 use Rattle.record.specs.Policy.{Policy}
 use Rattle.recognizer.specs.Told.{table_read}
 use Rattle.records.specs.Outcomes.{outcome_of, record_of}
-use Rattle.records.specs.declared.Outcome.{Outcome}
-use Rattle.records.specs.declared.Outcome.TheVariants.{Refused}
 use Rattle.room.specs.Room.{room_from, Roomy}
 use Rattle.ends.specs.Ends.{end_of}
 
 -- a call with work slices of their lengths, which are cleared at its end
-pub end_cleared : (sizes : List ℕ) (m : Reading Policy) (works cleared : List (List ℕ)) (out o : List ℕ) (r : Outcome) → Roomy works sizes
+pub end_cleared : (sizes : List ℕ) (m : Reading Policy) (works cleared : List (List ℕ)) (out o : List ℕ) (r : Reading ℕ) → Roomy works sizes
     → r ≡ outcome_of (table_read m) (length out) → o ≡ record_of (table_read m) out → cleared ≡ map zeros works → end_of sizes m works out ≡ record { outcome = r; works = cleared; out = o }
 unfolding end_of
 end_cleared sizes m works cleared out o r e a b c = rw (e, a, b, c)
 
 -- a call with a short work slice
-pub end_short : (sizes : List ℕ) (m : Reading Policy) (works : List (List ℕ)) (out : List ℕ) (r : Refusal) → refused r ≡ room_from 0 (map length works) sizes
-    → end_of sizes m works out ≡ record { outcome = Refused r; works = works; out = out }
+pub end_short : (sizes : List ℕ) (m : Reading Policy) (works : List (List ℕ)) (out : List ℕ) (r : Refusal) → Err r ≡ room_from 0 (map length works) sizes
+    → end_of sizes m works out ≡ record { outcome = Err r; works = works; out = out }
 unfolding end_of
 end_short sizes m works out r e = rw (← e)
 

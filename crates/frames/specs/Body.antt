@@ -1,6 +1,6 @@
 -- The body of a table on TEXT: document 01, "Canvas", and the Rust's `recognize_body_rect`.
-use Rattle.std.specs.Prelude.{[], ◌∷◌, ℕ, ◌+◌, ◌-◌}
-use Rattle.lists.specs.Answer.{ok, ◌>>=◌}
+use Rattle.std.specs.Prelude.{[], ◌∷◌, ℕ, ◌+◌, ◌-◌, Ok}
+use Rattle.lists.specs.Answer.{◌>>=◌}
 use Rattle.lists.specs.Picture.{Picture}
 use Rattle.model.specs.Box.{═, ║, ╞, ╟, ╡, ╢, ╤, ╥, ╧, ╨, ╪, ╫, ╬}
 use Rattle.model.specs.Refusals.{Reading}
@@ -15,4 +15,4 @@ body_of p w h x y = do
   d ← go_of Down p w h x y (╨ ∷ []) (║ ∷ ╫ ∷ ╟ ∷ ╢ ∷ ╬ ∷ [])
   l ← go_of Left p w h x y (╞ ∷ []) (═ ∷ ╪ ∷ ╧ ∷ ╤ ∷ [])
   r ← go_of Right p w h x y (╡ ∷ []) (═ ∷ ╪ ∷ ╧ ∷ ╤ ∷ ╬ ∷ [])
-  ok (record { left = x - l; top = y - u; right = x + r + 1; bottom = y + d + 1 })
+  Ok (record { left = x - l; top = y - u; right = x + r + 1; bottom = y + d + 1 })

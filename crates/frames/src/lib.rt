@@ -3,8 +3,7 @@
 
 ghost use Rattle.std.specs.Prelude.{◌≡◌, ◌+◌, ◌<◌, ◌^◌, length};
 ghost use Rattle.lists.specs.Picture.{canvas};
-ghost use Rattle.walks.specs.Walk.{steps_in};
-ghost use Rattle.walks.specs.Frame.{Place, close_of, frame_of, framed_in};
+ghost use Rattle.walks.specs.Frame.{Place, close_of, frame_of};
 ghost use Rattle.walks.specs.Kinds.{thin, grid, name};
 ghost use Rattle.walks.specs.declared.Direction.TheVariants.{Right, Down};
 ghost use Rattle.along.specs.Characters.{kind_of, along_of};
@@ -14,34 +13,31 @@ ghost use Rattle.frames.specs.Answers.{all_of, closed_of};
 
 use along::Lines;
 use model::{Point, Rect, Refusal};
-use walks::{Framed, Walked};
+use walks::Direction;
 
 // The last of four walks, or the first refusal.
-fn all(a: Walked, b: Walked, c: Walked, d: Walked) -> Walked
-    ensures { steps_in result ≡ all_of a b c d }
+fn all(
+    a: Result<usize, Refusal>,
+    b: Result<usize, Refusal>,
+    c: Result<usize, Refusal>,
+    d: Result<usize, Refusal>,
+) -> Result<usize, Refusal>
+    ensures { result ≡ all_of a b c d }
 {
-    match a {
-        Walked::Steps(_) => {}
-        Walked::Stopped(_) => return a,
-    }
-    match b {
-        Walked::Steps(_) => {}
-        Walked::Stopped(_) => return b,
-    }
-    match c {
-        Walked::Steps(_) => d,
-        Walked::Stopped(_) => c,
-    }
+    a?;
+    b?;
+    c?;
+    d
 }
 
 // The four walks of a frame ended in column cx of row cy; its bottom right corner is in column bx of row by.
-fn close(x: usize, y: usize, cx: usize, cy: usize, bx: usize, by: usize) -> Framed
+fn close(x: usize, y: usize, cx: usize, cy: usize, bx: usize, by: usize) -> Result<Rect, Refusal>
     requires { (bx + 1 < 2 ^ 64) × (by + 1 < 2 ^ 64) }
-    ensures { framed_in result ≡ close_of x y cx cy bx by }
+    ensures { result ≡ close_of x y cx cy bx by }
 {
     if cx == x {
         if cy == y {
-            return Framed::Closed(Rect {
+            return Ok(Rect {
                 left: x,
                 top: y,
                 right: bx + 1,
@@ -49,7 +45,7 @@ fn close(x: usize, y: usize, cx: usize, cy: usize, bx: usize, by: usize) -> Fram
             });
         }
     }
-    Framed::NotFramed(Refusal::RectangleNotClosed(cx, cy))
+    Err(Refusal::RectangleNotClosed(cx, cy))
 }
 
 // What four walks found: the rect from column x of row y to column bx of row by, if they ended where it begins, in
@@ -61,146 +57,162 @@ fn closed(
     by: usize,
     cx: usize,
     cy: usize,
-    right: Walked,
-    down: Walked,
-    left: Walked,
-    up: Walked,
-) -> Framed
+    right: Result<usize, Refusal>,
+    down: Result<usize, Refusal>,
+    left: Result<usize, Refusal>,
+    up: Result<usize, Refusal>,
+) -> Result<Rect, Refusal>
     requires { (bx + 1 < 2 ^ 64) × (by + 1 < 2 ^ 64) }
-    ensures { framed_in result ≡ closed_of x y bx by cx cy right down left up }
+    ensures { result ≡ closed_of x y bx by cx cy right down left up }
 {
-    match all(right, down, left, up) {
-        Walked::Steps(_) => close(x, y, cx, cy, bx, by),
-        Walked::Stopped(r) => Framed::NotFramed(r),
-    }
+    all(right, down, left, up)?;
+    close(x, y, cx, cy, bx, by)
 }
 
-// The frame along lines that starts in column x of row y: one cursor goes around it. Each kind of frame has a function of its own, so that
-// its walks are compiled with its characters.
-fn region_frame(layer: &[u32], w: usize, h: usize, x: usize, y: usize, lines: Lines) -> Framed
+// The frame along lines that starts in column x of row y: one cursor goes around it. It is inlined into each caller, so
+// that its walks are compiled with its characters.
+#[inline(always)]
+fn frame(
+    layer: &[u32],
+    w: usize,
+    h: usize,
+    x: usize,
+    y: usize,
+    lines: Lines,
+) -> Result<Rect, Refusal>
     requires { Place w h x y (length layer.now) }
-    ensures { framed_in result ≡ frame_of (kind_of lines) (canvas w h layer.now) w h x y }
+    ensures { result ≡ frame_of (kind_of lines) (canvas w h layer.now) w h x y }
 {
     let mut cursor = Point { x, y };
-    let right = cursors::search_right(layer, w, h, &mut cursor, lines);
-    let down = cursors::search_down(layer, w, h, &mut cursor, lines);
+    let right = cursors::search(Direction::Right, layer, w, h, &mut cursor, lines);
+    let down = cursors::search(Direction::Down, layer, w, h, &mut cursor, lines);
     let bx = cursor.x;
     let by = cursor.y;
-    let left = cursors::search_left(layer, w, h, &mut cursor, lines);
-    let up = cursors::search_up(layer, w, h, &mut cursor, lines);
-    closed(x, y, bx, by, cursor.x, cursor.y, right, down, left, up)
-}
-
-fn rectangle_frame(layer: &[u32], w: usize, h: usize, x: usize, y: usize, lines: Lines) -> Framed
-    requires { Place w h x y (length layer.now) }
-    ensures { framed_in result ≡ frame_of (kind_of lines) (canvas w h layer.now) w h x y }
-{
-    let mut cursor = Point { x, y };
-    let right = cursors::search_right(layer, w, h, &mut cursor, lines);
-    let down = cursors::search_down(layer, w, h, &mut cursor, lines);
-    let bx = cursor.x;
-    let by = cursor.y;
-    let left = cursors::search_left(layer, w, h, &mut cursor, lines);
-    let up = cursors::search_up(layer, w, h, &mut cursor, lines);
-    closed(x, y, bx, by, cursor.x, cursor.y, right, down, left, up)
-}
-
-fn name_frame(layer: &[u32], w: usize, h: usize, x: usize, y: usize, lines: Lines) -> Framed
-    requires { Place w h x y (length layer.now) }
-    ensures { framed_in result ≡ frame_of (kind_of lines) (canvas w h layer.now) w h x y }
-{
-    let mut cursor = Point { x, y };
-    let right = cursors::search_right(layer, w, h, &mut cursor, lines);
-    let down = cursors::search_down(layer, w, h, &mut cursor, lines);
-    let bx = cursor.x;
-    let by = cursor.y;
-    let left = cursors::search_left(layer, w, h, &mut cursor, lines);
-    let up = cursors::search_up(layer, w, h, &mut cursor, lines);
+    let left = cursors::search(Direction::Left, layer, w, h, &mut cursor, lines);
+    let up = cursors::search(Direction::Up, layer, w, h, &mut cursor, lines);
     closed(x, y, bx, by, cursor.x, cursor.y, right, down, left, up)
 }
 
 // The region that starts in column x of row y of THIN.
-pub fn recognize_region(layer: &[u32], w: usize, h: usize, x: usize, y: usize) -> Framed
+pub fn recognize_region(
+    layer: &[u32],
+    w: usize,
+    h: usize,
+    x: usize,
+    y: usize,
+) -> Result<Rect, Refusal>
     requires { Place w h x y (length layer.now) }
-    ensures { framed_in result ≡ frame_of thin (canvas w h layer.now) w h x y }
+    ensures { result ≡ frame_of thin (canvas w h layer.now) w h x y }
 {
-    region_frame(layer, w, h, x, y, Lines::Region)
+    frame(layer, w, h, x, y, Lines::Region)
 }
 
 // The cell of the plane that starts in column x of row y of GRID.
-pub fn recognize_rectangle(layer: &[u32], w: usize, h: usize, x: usize, y: usize) -> Framed
+pub fn recognize_rectangle(
+    layer: &[u32],
+    w: usize,
+    h: usize,
+    x: usize,
+    y: usize,
+) -> Result<Rect, Refusal>
     requires { Place w h x y (length layer.now) }
-    ensures { framed_in result ≡ frame_of grid (canvas w h layer.now) w h x y }
+    ensures { result ≡ frame_of grid (canvas w h layer.now) w h x y }
 {
-    rectangle_frame(layer, w, h, x, y, Lines::Rectangle)
+    frame(layer, w, h, x, y, Lines::Rectangle)
 }
 
 // The box of the name, which starts in the top left corner of TEXT.
-pub fn recognize_name(layer: &[u32], w: usize, h: usize) -> Framed
+pub fn recognize_name(layer: &[u32], w: usize, h: usize) -> Result<Rect, Refusal>
     requires { Place w h 0 0 (length layer.now) }
-    ensures { framed_in result ≡ frame_of name (canvas w h layer.now) w h 0 0 }
+    ensures { result ≡ frame_of name (canvas w h layer.now) w h 0 0 }
 {
-    name_frame(layer, w, h, 0, 0, Lines::Name)
+    frame(layer, w, h, 0, 0, Lines::Name)
 }
 
 // The rect whose sides four walks from column x of row y come to: the cursor is set back there after each.
-fn sides(layer: &[u32], w: usize, h: usize, x: usize, y: usize, lines: Lines) -> Framed
+fn sides(
+    layer: &[u32],
+    w: usize,
+    h: usize,
+    x: usize,
+    y: usize,
+    lines: Lines,
+) -> Result<Rect, Refusal>
     requires { Place w h x y (length layer.now) × (lines ≡ Body) }
-    ensures { framed_in result ≡ body_of (canvas w h layer.now) w h x y }
+    ensures { result ≡ body_of (canvas w h layer.now) w h x y }
 {
     let mut cursor = Point { x, y };
-    let up = cursors::search_up(layer, w, h, &mut cursor, lines);
+    let up = cursors::search(Direction::Up, layer, w, h, &mut cursor, lines);
     let top = cursor.y;
     cursor = Point { x, y };
-    let down = cursors::search_down(layer, w, h, &mut cursor, lines);
+    let down = cursors::search(Direction::Down, layer, w, h, &mut cursor, lines);
     let bottom = cursor.y;
     cursor = Point { x, y };
-    let left = cursors::search_left(layer, w, h, &mut cursor, lines);
+    let left = cursors::search(Direction::Left, layer, w, h, &mut cursor, lines);
     let first = cursor.x;
     cursor = Point { x, y };
-    let right = cursors::search_right(layer, w, h, &mut cursor, lines);
+    let right = cursors::search(Direction::Right, layer, w, h, &mut cursor, lines);
     closed(
         first, top, cursor.x, bottom, first, top, up, down, left, right,
     )
 }
 
 // The body of the table whose main crossing stands in column x of row y.
-pub fn recognize_body(layer: &[u32], w: usize, h: usize, x: usize, y: usize) -> Framed
+pub fn recognize_body(
+    layer: &[u32],
+    w: usize,
+    h: usize,
+    x: usize,
+    y: usize,
+) -> Result<Rect, Refusal>
     requires { Place w h x y (length layer.now) }
-    ensures { framed_in result ≡ body_of (canvas w h layer.now) w h x y }
+    ensures { result ≡ body_of (canvas w h layer.now) w h x y }
 {
     sides(layer, w, h, x, y, Lines::Body)
 }
 
-// A walk right from column x of row y, on a cursor of its own.
-fn right_from(layer: &[u32], w: usize, h: usize, x: usize, y: usize, lines: Lines) -> Walked
+// A walk from column x of row y, on a cursor of its own.
+#[inline(always)]
+fn walk_from(
+    d: Direction,
+    layer: &[u32],
+    w: usize,
+    h: usize,
+    x: usize,
+    y: usize,
+    lines: Lines,
+) -> Result<usize, Refusal>
     requires { Place w h x y (length layer.now) }
-    ensures { steps_in result ≡ along_of lines Right (canvas w h layer.now) w h x y }
+    ensures { result ≡ along_of lines d (canvas w h layer.now) w h x y }
 {
     let mut cursor = Point { x, y };
-    cursors::search_right(layer, w, h, &mut cursor, lines)
-}
-
-fn down_from(layer: &[u32], w: usize, h: usize, x: usize, y: usize, lines: Lines) -> Walked
-    requires { Place w h x y (length layer.now) }
-    ensures { steps_in result ≡ along_of lines Down (canvas w h layer.now) w h x y }
-{
-    let mut cursor = Point { x, y };
-    cursors::search_down(layer, w, h, &mut cursor, lines)
+    cursors::search(d, layer, w, h, &mut cursor, lines)
 }
 
 // The walk to an annotation crossing on the right of column x of row y.
-pub fn crossing_right(layer: &[u32], w: usize, h: usize, x: usize, y: usize) -> Walked
+pub fn crossing_right(
+    layer: &[u32],
+    w: usize,
+    h: usize,
+    x: usize,
+    y: usize,
+) -> Result<usize, Refusal>
     requires { Place w h x y (length layer.now) }
-    ensures { steps_in result ≡ along_of Crossing Right (canvas w h layer.now) w h x y }
+    ensures { result ≡ along_of Crossing Right (canvas w h layer.now) w h x y }
 {
-    right_from(layer, w, h, x, y, Lines::Crossing)
+    walk_from(Direction::Right, layer, w, h, x, y, Lines::Crossing)
 }
 
 // The walk to one below.
-pub fn crossing_below(layer: &[u32], w: usize, h: usize, x: usize, y: usize) -> Walked
+pub fn crossing_below(
+    layer: &[u32],
+    w: usize,
+    h: usize,
+    x: usize,
+    y: usize,
+) -> Result<usize, Refusal>
     requires { Place w h x y (length layer.now) }
-    ensures { steps_in result ≡ along_of Crossing Down (canvas w h layer.now) w h x y }
+    ensures { result ≡ along_of Crossing Down (canvas w h layer.now) w h x y }
 {
-    down_from(layer, w, h, x, y, Lines::Crossing)
+    walk_from(Direction::Down, layer, w, h, x, y, Lines::Crossing)
 }

@@ -69,12 +69,10 @@ fn has_code(s: &[u32], base: usize, stride: usize, n: usize, code: u32) -> bool
     requires { (k : ℕ) → k < n → base + k * stride < length s.now }
     ensures { result ≡ any_at (λ k. eqb (get_or s.now (base + k * stride) 0) code) n }
 {
-    let mut k = 0;
-    while k < n {
+    for k in 0..n {
         if s[base + k * stride] == code {
             return true;
         }
-        k += 1;
     }
     false
 }
@@ -122,10 +120,8 @@ fn carry_line(
 {
     let line = d.line;
     if has_code(grid, base, stride, n, line) {
-        let mut k = 0;
-        while k < n {
+        for k in 0..n {
             carry_at(text, thins, bodies, grid, d, base + k * stride, off, n, k);
-            k += 1;
         }
     }
 }
@@ -149,8 +145,7 @@ fn carry_lines(
     requires line_stays { LineStays d }
     ensures { grid.new ≡ lines_carried d off (placed base across stride) m n grid.old }
 {
-    let mut j = 0;
-    while j < m {
+    for j in 0..m {
         carry_line(
             text,
             thins,
@@ -162,7 +157,6 @@ fn carry_lines(
             n,
             off,
         );
-        j += 1;
     }
 }
 
@@ -171,11 +165,7 @@ fn copy_layer(src: &[u32], dst: &mut [u32], n: usize)
     requires { (n ≤ length src.now) × (n ≤ length dst.old) }
     ensures { dst.new ≡ take n src.now ++ drop n dst.old }
 {
-    let mut i = 0;
-    while i < n {
-        dst[i] = src[i];
-        i += 1;
-    }
+    dst[..n].copy_from_slice(&src[..n]);
 }
 
 // GRID of BODY: the lines of the body are carried across it.

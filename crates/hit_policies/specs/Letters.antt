@@ -1,13 +1,10 @@
 -- The letters of hit policies: DMN, 8.2 (U A P F R O C, and C with an aggregator), and the policy that a text is.
-use Rattle.std.specs.Prelude.{Bool, true, false, ◌&&◌, List, [], ◌∷◌, ℕ, eqb}
-use Rattle.std.proofs.Math.Option.{Option, none, some}
+use Rattle.std.specs.Prelude.{Bool, true, false, ◌&&◌, List, [], ◌∷◌, ℕ, eqb, Option, None, Some}
 use Rattle.lists.specs.Choose.{choose}
 use Rattle.model.specs.Policies.{policies}
 use Rattle.model.specs.declared.BuiltinAggregator.TheVariants as aggregator
 use Rattle.model.specs.declared.HitPolicy.{HitPolicy}
 use Rattle.model.specs.declared.HitPolicy.TheVariants.{Unique, Any, Priority, First, Collect, OutputOrder, RuleOrder}
-use Rattle.hit_policies.specs.declared.FoundPolicy.{FoundPolicy}
-use Rattle.hit_policies.specs.declared.FoundPolicy.TheVariants.{Policy, NoPolicy}
 
 -- the letters that stand for a policy
 abbrev pub letters : HitPolicy → List ℕ
@@ -32,14 +29,9 @@ same_text (a ∷ s) (b ∷ t) = eqb a b && same_text s t
 
 -- the first of some policies whose letters are the text
 unfoldable pub by_letters : List HitPolicy → List ℕ → Option HitPolicy
-by_letters [] s = none
-by_letters (h ∷ hs) s = choose (same_text s (letters h)) (some h) (by_letters hs s)
+by_letters [] s = None
+by_letters (h ∷ hs) s = choose (same_text s (letters h)) (Some h) (by_letters hs s)
 
 -- the policy that a trimmed text is
 abbrev pub policy_of : List ℕ → Option HitPolicy
 policy_of s = by_letters policies s
-
--- an answer's policy
-abbrev pub policy_found : FoundPolicy → Option HitPolicy
-policy_found (Policy h) = some h
-policy_found NoPolicy = none

@@ -4,11 +4,8 @@
 ghost use Rattle.std.specs.Prelude.{◌≡◌, ◌+◌, ◌≤◌};
 ghost use Rattle.cells.specs.Plane.{plane_in, PlaneFits};
 ghost use Rattle.layouts.specs.Layouts.{one_layout, named_layout, labelled_layout, many_layout, layout_of};
-ghost use Rattle.layouts.specs.Told.{layout_in};
 
-use cell_tests::{CellRead, Test};
 use model::Refusal;
-use passes::Pass;
 
 // What the output clauses have.
 #[derive(Clone, Copy)]
@@ -18,56 +15,46 @@ pub struct Layout {
     pub valued: bool,
 }
 
-#[derive(Clone, Copy)]
-pub enum LaidOut {
-    As(Layout),
-    NotLaidOut(Refusal),
-}
-
 // One output, in column x, under h clause rows.
-fn lay_one(plane: &[u32], rows: usize, x: usize, h: usize) -> LaidOut
+fn lay_one(plane: &[u32], rows: usize, x: usize, h: usize) -> Result<Layout, Refusal>
     requires { PlaneFits plane.now rows }
-    ensures { layout_in result ≡ one_layout (plane_in plane.now rows) x h }
+    ensures { result ≡ one_layout (plane_in plane.now rows) x h }
 {
     if h == 1 {
-        return match cell_tests::region_at(plane, rows, 0, x) {
-            CellRead::Number(_) => LaidOut::As(Layout {
-                labelled: true,
-                named: false,
-                valued: false,
-            }),
-            CellRead::NotRead(r) => LaidOut::NotLaidOut(r),
-        };
+        cell_tests::region_at(plane, rows, 0, x)?;
+        return Ok(Layout {
+            labelled: true,
+            named: false,
+            valued: false,
+        });
     }
     if h == 2 {
-        return match cell_tests::column_is(plane, rows, false, 0, x) {
-            Test::Is(t) => LaidOut::As(Layout {
-                labelled: t,
-                named: false,
-                valued: true,
-            }),
-            Test::NotTold(r) => LaidOut::NotLaidOut(r),
-        };
+        let labelled = cell_tests::column_is(plane, rows, false, 0, x)?;
+        return Ok(Layout {
+            labelled,
+            named: false,
+            valued: true,
+        });
     }
-    LaidOut::NotLaidOut(Refusal::TooManyOutputRows)
+    Err(Refusal::TooManyOutputRows)
 }
 
 // Component names in row 0 and, if valued, allowed values in row 1.
-fn lay_named(plane: &[u32], rows: usize, x: usize, m: usize, valued: bool) -> LaidOut
+fn lay_named(
+    plane: &[u32],
+    rows: usize,
+    x: usize,
+    m: usize,
+    valued: bool,
+) -> Result<Layout, Refusal>
     requires { PlaneFits plane.now rows × (x + m ≤ 128) }
-    ensures { layout_in result ≡ named_layout (plane_in plane.now rows) x m valued }
+    ensures { result ≡ named_layout (plane_in plane.now rows) x m valued }
 {
-    match passes::pass_row(plane, rows, 0, x, m) {
-        Pass::Clear => {}
-        Pass::Stopped(r) => return LaidOut::NotLaidOut(r),
-    }
+    passes::pass_row(plane, rows, 0, x, m)?;
     if valued {
-        match passes::pass_row(plane, rows, 1, x, m) {
-            Pass::Clear => {}
-            Pass::Stopped(r) => return LaidOut::NotLaidOut(r),
-        }
+        passes::pass_row(plane, rows, 1, x, m)?;
     }
-    LaidOut::As(Layout {
+    Ok(Layout {
         labelled: false,
         named: true,
         valued,
@@ -75,25 +62,22 @@ fn lay_named(plane: &[u32], rows: usize, x: usize, m: usize, valued: bool) -> La
 }
 
 // A label in row 0, component names in row 1 and, if valued, allowed values in row 2.
-fn lay_labelled(plane: &[u32], rows: usize, x: usize, m: usize, valued: bool) -> LaidOut
+fn lay_labelled(
+    plane: &[u32],
+    rows: usize,
+    x: usize,
+    m: usize,
+    valued: bool,
+) -> Result<Layout, Refusal>
     requires { PlaneFits plane.now rows × (x + m ≤ 128) }
-    ensures { layout_in result ≡ labelled_layout (plane_in plane.now rows) x m valued }
+    ensures { result ≡ labelled_layout (plane_in plane.now rows) x m valued }
 {
-    match cell_tests::region_at(plane, rows, 0, x) {
-        CellRead::Number(_) => {}
-        CellRead::NotRead(r) => return LaidOut::NotLaidOut(r),
-    }
-    match passes::pass_row(plane, rows, 1, x, m) {
-        Pass::Clear => {}
-        Pass::Stopped(r) => return LaidOut::NotLaidOut(r),
-    }
+    cell_tests::region_at(plane, rows, 0, x)?;
+    passes::pass_row(plane, rows, 1, x, m)?;
     if valued {
-        match passes::pass_row(plane, rows, 2, x, m) {
-            Pass::Clear => {}
-            Pass::Stopped(r) => return LaidOut::NotLaidOut(r),
-        }
+        passes::pass_row(plane, rows, 2, x, m)?;
     }
-    LaidOut::As(Layout {
+    Ok(Layout {
         labelled: true,
         named: true,
         valued,
@@ -101,9 +85,16 @@ fn lay_labelled(plane: &[u32], rows: usize, x: usize, m: usize, valued: bool) ->
 }
 
 // m outputs from column x on, under h clause rows.
-fn lay_many(plane: &[u32], rows: usize, x: usize, m: usize, h: usize, valued: bool) -> LaidOut
+fn lay_many(
+    plane: &[u32],
+    rows: usize,
+    x: usize,
+    m: usize,
+    h: usize,
+    valued: bool,
+) -> Result<Layout, Refusal>
     requires { PlaneFits plane.now rows × (x + m ≤ 128) }
-    ensures { layout_in result ≡ many_layout (plane_in plane.now rows) x m h valued }
+    ensures { result ≡ many_layout (plane_in plane.now rows) x m h valued }
 {
     if h == 1 {
         return lay_named(plane, rows, x, m, false);
@@ -118,12 +109,19 @@ fn lay_many(plane: &[u32], rows: usize, x: usize, m: usize, h: usize, valued: bo
 }
 
 // The output clauses.
-pub fn lay_out(plane: &[u32], rows: usize, x: usize, m: usize, h: usize, valued: bool) -> LaidOut
+pub fn lay_out(
+    plane: &[u32],
+    rows: usize,
+    x: usize,
+    m: usize,
+    h: usize,
+    valued: bool,
+) -> Result<Layout, Refusal>
     requires { PlaneFits plane.now rows × (x + m ≤ 128) }
-    ensures { layout_in result ≡ layout_of (plane_in plane.now rows) x m h valued }
+    ensures { result ≡ layout_of (plane_in plane.now rows) x m h valued }
 {
     if m == 0 {
-        return LaidOut::NotLaidOut(Refusal::NoOutputClause);
+        return Err(Refusal::NoOutputClause);
     }
     if m == 1 {
         return lay_one(plane, rows, x, h);

@@ -1,11 +1,11 @@
 -- What loading answers, and that the slices then hold a plane.
+use Rattle.std.specs.Prelude.{Ok, Err}
 use mathlib.Core.Path.{◌≡◌, sym, ◌∙◌}
 use mathlib.Core.Bool.{true, false}
 use mathlib.Core.List.{List}
 use Prim.Native.Nat.{ℕ, ◌+◌, ◌*◌, ◌≤◌, ◌<◌}
 use native.Mathlib.Omega.{arith}
 use lib.ListN.{length, get_or}
-use Rattle.lists.specs.Answer.{ok, refused}
 use Rattle.lists.specs.Run.{build}
 use Rattle.model.specs.Limits.{region_count}
 use Rattle.model.specs.declared.Cell.{Cell}
@@ -24,7 +24,7 @@ use Rattle.lent.proofs.TextLaws.{text_on}
 use Rattle.lent.proofs.FormLaws.{rows_good, regions-few, region-known}
 
 module _ (l : LentPlane) where
-  pub lent-refused : well_formed l ≡ false → refused LentPlaneMalformed ≡ lent_of l
+  pub lent-refused : well_formed l ≡ false → Err LentPlaneMalformed ≡ lent_of l
   unfolding lent_of
   lent-refused e = rw e
 
@@ -33,7 +33,7 @@ module _ (l : LentPlane) where
 
   module _ (e : well_formed l ≡ true) (d spans : List ℕ) (p : plane_in d (length l.rows) ≡ cut l.rows (build (length l.kinds) cells)) where
     pub lent_loaded : texts_in l.bytes spans (length l.offsets) ≡ build (length l.offsets) (text_on l.offsets l.sizes l.bytes)
-        → ok (record { plane = plane_in d (length l.rows); texts = texts_in l.bytes spans (length l.offsets) }) ≡ lent_of l
+        → Ok (record { plane = plane_in d (length l.rows); texts = texts_in l.bytes spans (length l.offsets) }) ≡ lent_of l
     unfolding lent_of
     lent_loaded t = rw (e, p, t)
 

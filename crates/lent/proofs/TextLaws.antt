@@ -1,4 +1,5 @@
 -- A part of the bytes: the ways of the test whether it is a text, and the text trimmed.
+use Rattle.std.specs.Prelude.{Result, ℕ, Ok, Err}
 use mathlib.Core.Path.{◌≡◌, sym, ap, ◌∙◌}
 use mathlib.Core.Bool.{Bool, true, false}
 use mathlib.Core.List.{List}
@@ -9,8 +10,6 @@ use lib.ListN.{length, get_or, take, drop}
 use Rattle.lists.proofs.Tests.{by_flag, choose_off, true_false}
 use Rattle.white_space.specs.Trim.{PartIn, trim_utf8}
 use Rattle.utf8.specs.Utf8.{checked, on_text}
-use Rattle.utf8.specs.declared.Checked.{Checked}
-use Rattle.utf8.specs.declared.Checked.TheVariants.{Valid, Invalid}
 use Rattle.cells.proofs.SpanLaws.{part_of_lem}
 use Rattle.lent.specs.LentPlane.{good_part}
 
@@ -18,14 +17,14 @@ module _ (bytes : List ℕ) (offset size : ℕ) where
   pub part_long : length bytes < offset + size → false ≡ good_part bytes offset size
   part_long h = rw (lt-leb (offset + size) (length bytes) h)
 
-  module _ (r : Checked) (h : offset + size ≤ length bytes) (e : r ≡ checked (take (offset + size - offset) (drop offset bytes))) where
+  module _ (r : Result (Unit {0}) ℕ) (h : offset + size ≤ length bytes) (e : r ≡ checked (take (offset + size - offset) (drop offset bytes))) where
     whole : checked (take size (drop offset bytes)) ≡ r
     whole = sym (rw (part_of_lem bytes offset size) at e)
 
-    pub part_valid : r ≡ Valid → true ≡ good_part bytes offset size
+    pub part_valid : r ≡ (Ok tt) → true ≡ good_part bytes offset size
     part_valid q = let z = whole ∙ q in rw (le-leb (offset + size) (length bytes) h, z)
 
-    pub part_invalid : (at : ℕ) → r ≡ Invalid at → false ≡ good_part bytes offset size
+    pub part_invalid : (at : ℕ) → r ≡ Err at → false ≡ good_part bytes offset size
     part_invalid at q = let z = whole ∙ q in rw (le-leb (offset + size) (length bytes) h, z)
 
 abbrev pub good_at : List ℕ → List ℕ → List ℕ → ℕ → Bool

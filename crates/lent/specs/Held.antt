@@ -1,14 +1,11 @@
 -- What loading a lent plane answers, with the slices that hold it.
-use Rattle.std.specs.Prelude.{List, ◌≡◌, ℕ, ◌+◌, ◌*◌, ◌≤◌, ◌<◌, length, get_or}
-use Rattle.lists.specs.Answer.{ok, refused}
+use Rattle.std.specs.Prelude.{List, ◌≡◌, ℕ, ◌+◌, ◌*◌, ◌≤◌, ◌<◌, length, get_or, Ok, Err}
 use Rattle.model.specs.Limits.{plane_rows, plane_cells, plane_size, region_count, text_bytes}
 use Rattle.model.specs.Refusals.{Reading}
 use Rattle.cells.specs.Held.{Held}
 use Rattle.cells.specs.Plane.{TextPlane, plane_in}
 use Rattle.cells.specs.Spans.{offset_at, length_at, texts_in}
 use Rattle.lent.specs.LentPlane.{sum}
-use Rattle.lent.specs.declared.Loaded.{Loaded}
-use Rattle.lent.specs.declared.Loaded.TheVariants.{Rows, NotLoaded}
 
 -- cells of kind 0 have the number of one of 1,024 regions
 pub record CellsGood (kinds regions : List ℕ) : Type 0 where
@@ -37,10 +34,10 @@ pub record Room (plane spans : List ℕ) : Type 0 where
   pub two_each : region_count * 2 ≤ length spans
 
 -- an answer's plane, with `count` texts
-abbrev pub loaded_in : Loaded → List ℕ → List ℕ → List ℕ → ℕ → Reading TextPlane
-loaded_in (Rows n) d bytes spans count = ok (record { plane = plane_in d n; texts = texts_in bytes spans count })
-loaded_in (NotLoaded r) d bytes spans count = refused r
+abbrev pub loaded_in : Reading ℕ → List ℕ → List ℕ → List ℕ → ℕ → Reading TextPlane
+loaded_in (Ok n) d bytes spans count = Ok (record { plane = plane_in d n; texts = texts_in bytes spans count })
+loaded_in (Err r) d bytes spans count = Err r
 
-abbrev pub LoadedHeld : Loaded → List ℕ → List ℕ → List ℕ → ℕ → Type 0
-LoadedHeld (Rows n) d bytes spans count = Held d n bytes spans count
-LoadedHeld (NotLoaded r) d bytes spans count = Unit {0}
+abbrev pub LoadedHeld : Reading ℕ → List ℕ → List ℕ → List ℕ → ℕ → Type 0
+LoadedHeld (Ok n) d bytes spans count = Held d n bytes spans count
+LoadedHeld (Err r) d bytes spans count = Unit {0}

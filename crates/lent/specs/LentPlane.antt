@@ -1,6 +1,5 @@
 -- A lent plane: its slices (document 01, "Regions and plane"), and number 26.
-use Rattle.std.specs.Prelude.{Bool, true, false, not, ◌&&◌, List, [], ◌∷◌, ℕ, ◌+◌, eqb, leb, ltb, length, get_or, take, drop}
-use Rattle.lists.specs.Answer.{ok, refused}
+use Rattle.std.specs.Prelude.{Bool, true, false, not, ◌&&◌, List, [], ◌∷◌, ℕ, ◌+◌, eqb, leb, ltb, length, get_or, take, drop, Ok, Err}
 use Rattle.lists.specs.Choose.{choose}
 use Rattle.lists.specs.OneOf.{any_at}
 use Rattle.lists.specs.Run.{build}
@@ -75,5 +74,5 @@ module _ (l : LentPlane) where
   -- the plane that is lent, and the texts of its regions
   unfoldable pub lent_of : Reading TextPlane
   lent_of =
-      choose well_formed (ok (record { plane = cut l.rows lent_cells; texts = build (length l.offsets) lent_text }))
-      (refused LentPlaneMalformed)
+      choose well_formed (Ok (record { plane = cut l.rows lent_cells; texts = build (length l.offsets) lent_text }))
+      (Err LentPlaneMalformed)

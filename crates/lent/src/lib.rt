@@ -13,7 +13,6 @@ ghost use Rattle.lent.specs.Held.{CellsGood, RowsGood, PartsGood, SpansIn, Room,
 
 use model::limits::{PLANE_CELLS, PLANE_ROWS, REGIONS, TEXT_BYTES};
 use model::{Cell, Refusal};
-use utf8::Checked;
 
 // The cells of all rows.
 fn total(rows: &[u32]) -> usize
@@ -21,10 +20,8 @@ fn total(rows: &[u32]) -> usize
     ensures { result ≡ sum rows.now }
 {
     let mut n = 0;
-    let mut i = 0;
-    while i < rows.len() {
+    for i in 0..rows.len() {
         n += rows[i] as usize;
-        i += 1;
     }
     n
 }
@@ -33,12 +30,10 @@ fn total(rows: &[u32]) -> usize
 fn rows_fit(rows: &[u32]) -> bool
     ensures { result ≡ all_at (λ i. leb (get_or rows.now i 0) plane_cells) (length rows.now) }
 {
-    let mut i = 0;
-    while i < rows.len() {
+    for i in 0..rows.len() {
         if PLANE_CELLS < rows[i] as usize {
             return false;
         }
-        i += 1;
     }
     true
 }
@@ -58,12 +53,10 @@ fn cells_known(kinds: &[u8], regions: &[u32], count: usize) -> bool
     requires { length regions.now ≡ length kinds.now }
     ensures { result ≡ cells_known count kinds.now regions.now }
 {
-    let mut k = 0;
-    while k < kinds.len() {
+    for k in 0..kinds.len() {
         if !is_known(count, kinds[k], regions[k]) {
             return false;
         }
-        k += 1;
     }
     true
 }
@@ -78,8 +71,8 @@ fn is_text(bytes: &[u8], offset: usize, size: usize) -> bool
         return false;
     }
     match code_points::validate(&bytes[offset..end]) {
-        Checked::Valid => true,
-        Checked::Invalid(_) => false,
+        Ok(()) => true,
+        Err(_) => false,
     }
 }
 
@@ -88,12 +81,10 @@ fn parts_good(offsets: &[u32], sizes: &[u32], bytes: &[u8]) -> bool
     requires { length sizes.now ≡ length offsets.now }
     ensures { result ≡ parts_good offsets.now sizes.now bytes.now }
 {
-    let mut k = 0;
-    while k < offsets.len() {
+    for k in 0..offsets.len() {
         if !is_text(bytes, offsets[k] as usize, sizes[k] as usize) {
             return false;
         }
-        k += 1;
     }
     true
 }
@@ -152,7 +143,7 @@ fn is_well_formed(
     parts_good(offsets, sizes, bytes)
 }
 
-// The cell of a kind.
+// The cell of a kind, which is a number since the caller in C lends it.
 fn cell_of_kind(kind: u8, region: u32) -> Cell
     ensures { result ≡ cell_of_kind kind region }
 {
@@ -174,11 +165,9 @@ fn load_row(kinds: &[u8], regions: &[u32], at: usize, n: usize, plane: &mut [u32
     ensures cells { cells_in plane.new row n ≡ build n (λ i. cell_of_kind (get_or kinds.now (at + i) 0) (get_or regions.now (at + i) 0)) }
     ensures before { KeptBefore plane.old plane.new row }
 {
-    let mut i = 0;
-    while i < n {
+    for i in 0..n {
         let c = cell_of_kind(kinds[at + i], regions[at + i]);
         cells::put_cell(plane, row, i, c);
-        i += 1;
     }
 }
 
@@ -188,14 +177,12 @@ fn load_rows(rows: &[u32], kinds: &[u8], regions: &[u32], plane: &mut [u32])
     ensures plane { plane_in plane.new (length rows.now) ≡ cut rows.now (build (length kinds.now) (λ k. cell_of_kind (get_or kinds.now k 0) (get_or regions.now k 0))) }
     ensures fits { PlaneFits plane.new (length rows.now) }
 {
-    let mut row = 0;
     let mut at = 0;
-    while row < rows.len() {
+    for row in 0..rows.len() {
         let n = rows[row] as usize;
         load_row(kinds, regions, at, n, plane, row);
         cells::end_row(plane, row, n);
         at += n;
-        row += 1;
     }
 }
 
@@ -205,22 +192,13 @@ fn load_texts(offsets: &[u32], sizes: &[u32], bytes: &[u8], spans: &mut [u32])
     ensures texts { texts_in bytes.now spans.new (length offsets.now) ≡ build (length offsets.now) (λ k. trim_utf8 (take (get_or sizes.now k 0) (drop (get_or offsets.now k 0) bytes.now))) }
     ensures inside { SpansIn bytes.now spans.new (length offsets.now) }
 {
-    let mut k = 0;
-    while k < offsets.len() {
+    for k in 0..offsets.len() {
         let from = offsets[k] as usize;
         let to = from + sizes[k] as usize;
         let part = white_space::trim_utf8_part(bytes, from, to);
         spans[k * 2] = part.from as u32;
         spans[k * 2 + 1] = (part.to - part.from) as u32;
-        k += 1;
     }
-}
-
-// So many rows stand in the slice, or why they cannot.
-#[derive(Clone, Copy)]
-pub enum Loaded {
-    Rows(usize),
-    NotLoaded(Refusal),
 }
 
 // A lent plane, checked, in the slices of a plane and of its texts.
@@ -233,15 +211,15 @@ pub fn load(
     bytes: &[u8],
     plane: &mut [u32],
     spans: &mut [u32],
-) -> Loaded
+) -> Result<usize, Refusal>
     requires { Room plane.old spans.old }
     ensures loaded { loaded_in result plane.new bytes.now spans.new (length offsets.now) ≡ lent_of (record { rows = rows.now; kinds = kinds.now; regions = regions.now; offsets = offsets.now; sizes = sizes.now; bytes = bytes.now }) }
     ensures held { LoadedHeld result plane.new bytes.now spans.new (length offsets.now) }
 {
     if !is_well_formed(rows, kinds, regions, offsets, sizes, bytes) {
-        return Loaded::NotLoaded(Refusal::LentPlaneMalformed);
+        return Err(Refusal::LentPlaneMalformed);
     }
     load_rows(rows, kinds, regions, plane);
     load_texts(offsets, sizes, bytes, spans);
-    Loaded::Rows(rows.len())
+    Ok(rows.len())
 }

@@ -5,8 +5,7 @@ ghost use Rattle.std.specs.Prelude.{[], ◌∷◌, ◌≡◌};
 ghost use Rattle.room.specs.Room.{Roomy};
 ghost use Rattle.lent_builder.specs.LentEnd.{lent_sizes, lent_end};
 
-use records::Outcome;
-use room::WorkSlices;
+use model::Refusal;
 
 // The least lengths of the work slices, in the order in which they are lent.
 const LENT_SIZES: [usize; 4] = [4160, 2048, 4160, 12480];
@@ -24,7 +23,7 @@ fn lent_cleared(
     upright: &mut [u32],
     slots: &mut [u32],
     out: &mut [u8],
-) -> Outcome
+) -> Result<usize, Refusal>
     requires { Roomy (plane.old ∷ spans.old ∷ upright.old ∷ slots.old ∷ []) lent_sizes }
     ensures end { lent_end (record { rows = rows.now; kinds = kinds.now; regions = regions.now; offsets = offsets.now; sizes = sizes.now; bytes = bytes.now }) (plane.old ∷ spans.old ∷ upright.old ∷ slots.old ∷ []) out.old ≡ record { outcome = result; works = plane.new ∷ spans.new ∷ upright.new ∷ slots.new ∷ []; out = out.new } }
 {
@@ -48,15 +47,13 @@ pub fn read_lent_plane(
     upright: &mut [u32],
     slots: &mut [u32],
     out: &mut [u8],
-) -> Outcome
+) -> Result<usize, Refusal>
     ensures end { lent_end (record { rows = rows.now; kinds = kinds.now; regions = regions.now; offsets = offsets.now; sizes = sizes.now; bytes = bytes.now }) (plane.old ∷ spans.old ∷ upright.old ∷ slots.old ∷ []) out.old ≡ record { outcome = result; works = plane.new ∷ spans.new ∷ upright.new ∷ slots.new ∷ []; out = out.new } }
 {
     let lens = [plane.len(), spans.len(), upright.len(), slots.len()];
     let least = LENT_SIZES;
-    match room::work_slices(&lens, &least) {
-        WorkSlices::Enough => lent_cleared(
-            rows, kinds, regions, offsets, sizes, bytes, plane, spans, upright, slots, out,
-        ),
-        WorkSlices::Short(r) => Outcome::Refused(r),
-    }
+    room::work_slices(&lens, &least)?;
+    lent_cleared(
+        rows, kinds, regions, offsets, sizes, bytes, plane, spans, upright, slots, out,
+    )
 }

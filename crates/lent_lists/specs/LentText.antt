@@ -1,14 +1,9 @@
 -- A lent plane as a text holds it: six lists, each behind its count.
-use Rattle.std.specs.Prelude.{◌&&◌, List, [], ◌∷◌, ℕ, ◌+◌, ◌-◌, ◌*◌, ◌≤◌, leb, length, take, drop}
-use Rattle.std.proofs.Math.Option.{Option, none, some}
+use Rattle.std.specs.Prelude.{◌&&◌, List, [], ◌∷◌, ℕ, ◌+◌, ◌-◌, ◌*◌, ◌≤◌, leb, length, take, drop, Option, None, Some}
 use Rattle.lists.specs.Choose.{choose}
 use Rattle.model.specs.Limits.{text_bytes}
 use Rattle.lent.specs.LentPlane.{LentPlane}
 use Rattle.lent_lists.specs.declared.Ends.{Ends}
-use Rattle.lent_lists.specs.declared.LentLists.{LentLists}
-use Rattle.lent_lists.specs.declared.LentLists.TheVariants.{Lists, NoLists}
-use Rattle.lent_lists.specs.declared.ListEnd.{ListEnd}
-use Rattle.lent_lists.specs.declared.ListEnd.TheVariants.{EndsAt, NoList}
 
 -- a list, and what stands behind it
 pub record Cut : Type 0 where
@@ -17,23 +12,23 @@ pub record Cut : Type 0 where
 
 -- k of what is there
 abbrev pub ◌>>=◌ : {A B : Type 0} → Option A → (A → Option B) → Option B
-◌>>=◌ none k = none
-◌>>=◌ (some a) k = k a
+◌>>=◌ None k = None
+◌>>=◌ (Some a) k = k a
 
 -- the first n bytes, if n is at most `most` and there are so many
 abbrev pub cut_at : ℕ → ℕ → List ℕ → Option Cut
-cut_at most n s = choose (leb n most && leb n (length s)) (some (record { list = take n s; rest = drop n s })) none
+cut_at most n s = choose (leb n most && leb n (length s)) (Some (record { list = take n s; rest = drop n s })) None
 
 -- a list behind its count, which is two bytes, the high one first
 unfoldable pub counted : ℕ → List ℕ → Option Cut
-counted most [] = none
-counted most (high ∷ []) = none
+counted most [] = None
+counted most (high ∷ []) = None
 counted most (high ∷ low ∷ s) = cut_at most (high * 256 + low) s
 
 -- nothing may be left
 abbrev pub ended : List ℕ → LentPlane → Option LentPlane
-ended [] l = some l
-ended (c ∷ s) l = none
+ended [] l = Some l
+ended (c ∷ s) l = None
 
 -- at most so many row lengths, region numbers, and offsets or lengths
 abbrev pub row_most : ℕ
@@ -61,9 +56,9 @@ abbrev pub list_at : List ℕ → ℕ → ℕ → List ℕ
 list_at s at end = take (end - (at + 2)) (drop (at + 2) s)
 
 -- an answer's list
-abbrev pub cut_in : ListEnd → ℕ → List ℕ → Option Cut
-cut_in (EndsAt end) at s = some (record { list = list_at s at end; rest = drop end s })
-cut_in NoList at s = none
+abbrev pub cut_in : Option ℕ → ℕ → List ℕ → Option Cut
+cut_in (Some end) at s = Some (record { list = list_at s at end; rest = drop end s })
+cut_in None at s = None
 
 -- the list lies in s and is not too long
 pub record EndFits (s : List ℕ) (at most end : ℕ) : Type 0 where
@@ -71,9 +66,9 @@ pub record EndFits (s : List ℕ) (at most end : ℕ) : Type 0 where
   pub high : end ≤ length s
   pub short : end ≤ at + 2 + most
 
-abbrev pub EndWithin : ListEnd → List ℕ → ℕ → ℕ → Type 0
-EndWithin (EndsAt end) s at most = EndFits s at most end
-EndWithin NoList s at most = Unit {0}
+abbrev pub EndWithin : Option ℕ → List ℕ → ℕ → ℕ → Type 0
+EndWithin (Some end) s at most = EndFits s at most end
+EndWithin None s at most = Unit {0}
 
 -- the six lists that end at some places
 abbrev pub lent_at : Ends → List ℕ → LentPlane
@@ -88,9 +83,9 @@ lent_at e s =
     }
 
 -- an answer's lent plane
-abbrev pub lists_in : LentLists → List ℕ → Option LentPlane
-lists_in (Lists e) s = some (lent_at e s)
-lists_in NoLists s = none
+abbrev pub lists_in : Option Ends → List ℕ → Option LentPlane
+lists_in (Some e) s = Some (lent_at e s)
+lists_in None s = None
 
 pub record EndsFit (e : Ends) (s : List ℕ) : Type 0 where
   pub rows : EndFits s 0 row_most e.rows
@@ -100,6 +95,6 @@ pub record EndsFit (e : Ends) (s : List ℕ) : Type 0 where
   pub sizes : EndFits s e.offsets part_most e.sizes
   pub bytes : EndFits s e.sizes text_bytes e.bytes
 
-abbrev pub ListsWithin : LentLists → List ℕ → Type 0
-ListsWithin (Lists e) s = EndsFit e s
-ListsWithin NoLists s = Unit {0}
+abbrev pub ListsWithin : Option Ends → List ℕ → Type 0
+ListsWithin (Some e) s = EndsFit e s
+ListsWithin None s = Unit {0}

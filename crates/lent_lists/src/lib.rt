@@ -13,30 +13,23 @@ pub const REGION_MOST: usize = 4500;
 
 pub const PART_MOST: usize = 1100;
 
-// Where a list behind its count ends, or that there is none.
-#[derive(Clone, Copy)]
-pub enum ListEnd {
-    EndsAt(usize),
-    NoList,
-}
-
 // The end of the list whose count stands at an index.
-fn list_end(s: &[u8], at: usize, most: usize) -> ListEnd
+fn list_end(s: &[u8], at: usize, most: usize) -> Option<usize>
     requires { at ≤ length s.now }
     ensures s_value { counted most (drop at s.now) ≡ cut_in result at s.now }
     ensures end_within { EndWithin result s.now at most }
 {
     if s.len() - at < 2 {
-        return ListEnd::NoList;
+        return None;
     }
     let n = s[at] as usize * 256 + s[at + 1] as usize;
     if most < n {
-        return ListEnd::NoList;
+        return None;
     }
     if s.len() - at - 2 < n {
-        return ListEnd::NoList;
+        return None;
     }
-    ListEnd::EndsAt(at + 2 + n)
+    Some(at + 2 + n)
 }
 
 // Where the six lists of a lent plane end.
@@ -50,39 +43,21 @@ pub struct Ends {
     pub bytes: usize,
 }
 
-#[derive(Clone, Copy)]
-pub enum LentLists {
-    Lists(Ends),
-    NoLists,
-}
-
 // The lists of a lent plane in a text.
-pub fn lists_in(s: &[u8]) -> LentLists
+pub fn lists_in(s: &[u8]) -> Option<Ends>
     ensures s_value { lent_in s.now ≡ lists_in result s.now }
     ensures lists_within { ListsWithin result s.now }
 {
-    let ListEnd::EndsAt(rows) = list_end(s, 0, ROW_MOST) else {
-        return LentLists::NoLists;
-    };
-    let ListEnd::EndsAt(kinds) = list_end(s, rows, TEXT_BYTES) else {
-        return LentLists::NoLists;
-    };
-    let ListEnd::EndsAt(regions) = list_end(s, kinds, REGION_MOST) else {
-        return LentLists::NoLists;
-    };
-    let ListEnd::EndsAt(offsets) = list_end(s, regions, PART_MOST) else {
-        return LentLists::NoLists;
-    };
-    let ListEnd::EndsAt(sizes) = list_end(s, offsets, PART_MOST) else {
-        return LentLists::NoLists;
-    };
-    let ListEnd::EndsAt(bytes) = list_end(s, sizes, TEXT_BYTES) else {
-        return LentLists::NoLists;
-    };
+    let rows = list_end(s, 0, ROW_MOST)?;
+    let kinds = list_end(s, rows, TEXT_BYTES)?;
+    let regions = list_end(s, kinds, REGION_MOST)?;
+    let offsets = list_end(s, regions, PART_MOST)?;
+    let sizes = list_end(s, offsets, PART_MOST)?;
+    let bytes = list_end(s, sizes, TEXT_BYTES)?;
     if bytes < s.len() {
-        return LentLists::NoLists;
+        return None;
     }
-    LentLists::Lists(Ends {
+    Some(Ends {
         rows,
         kinds,
         regions,
@@ -98,9 +73,7 @@ pub fn widen(s: &[u8], at: usize, end: usize, into: &mut [u32])
     ensures { take (end - (at + 2)) into.new ≡ list_at s.now at end }
 {
     let start = at + 2;
-    let mut i = 0;
-    while i < end - start {
+    for i in 0..end - start {
         into[i] = s[start + i] as u32;
-        i += 1;
     }
 }

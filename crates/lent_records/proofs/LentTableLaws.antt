@@ -1,11 +1,10 @@
 -- The table of a lent plane, from its plane and its texts.
+use Rattle.std.specs.Prelude.{Ok, Err, None}
 use mathlib.Core.Path.{◌≡◌, refl, sym}
 use mathlib.Core.Bool.{false}
 use mathlib.Core.List.{List}
-use mathlib.Core.Option.{none}
 use Prim.Native.Nat.{ℕ, ◌≤◌}
 use lib.ListN.{length}
-use Rattle.lists.specs.Answer.{ok, refused}
 use Rattle.lists.proofs.AnswerLaws.{refused-ok}
 use Rattle.lists.proofs.Tests.{by_flag, true_false}
 use Rattle.model.specs.Limits.{text_bytes}
@@ -20,12 +19,12 @@ use Rattle.tables.specs.NamedTable.{NameIn}
 use Rattle.policies.specs.LentPolicy.{text_in, lent_policy}
 
 module _ (l : LentPlane) where
-  pub not_lent : (r : Refusal) → refused r ≡ lent_of l → refused r ≡ table_read (lent_policy l)
+  pub not_lent : (r : Refusal) → Err r ≡ lent_of l → Err r ≡ table_read (lent_policy l)
   unfolding lent_policy
   not_lent r e = rw (← e)
 
-  module _ (t : TextPlane) (e : ok t ≡ lent_of l) where
-    pub lent-policy : table_read (stated_policy none (text_in t) t.plane) ≡ table_read (lent_policy l)
+  module _ (t : TextPlane) (e : Ok t ≡ lent_of l) where
+    pub lent-policy : table_read (stated_policy None (text_in t) t.plane) ≡ table_read (lent_policy l)
     unfolding lent_policy
     lent-policy = rw (← e)
 

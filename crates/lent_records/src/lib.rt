@@ -8,9 +8,8 @@ ghost use Rattle.policies.specs.LentPolicy.{lent_policy};
 ghost use Rattle.records.specs.Outcomes.{outcome_of, record_of};
 ghost use Rattle.lent_records.specs.LentTable.{LentRoom};
 
-use lent::Loaded;
-use recognizer::Recognized;
-use records::Outcome;
+use model::Refusal;
+use recognizer::SlotTable;
 
 // The table of a lent plane.
 fn lent_table(
@@ -24,24 +23,13 @@ fn lent_table(
     spans: &mut [u32],
     upright: &mut [u32],
     slots: &mut [u32],
-) -> Recognized
+) -> Result<SlotTable, Refusal>
     requires { LentRoom plane.old spans.old upright.old slots.old }
     ensures table { named_table result bytes.now slots.new ≡ table_read (lent_policy (record { rows = rows.now; kinds = kinds.now; regions = regions.now; offsets = offsets.now; sizes = sizes.now; bytes = bytes.now })) }
     ensures held { AnswerHeld result bytes.now slots.new }
 {
-    match lent::load(rows, kinds, regions, offsets, sizes, bytes, plane, spans) {
-        Loaded::Rows(n) => tables::plane_table(
-            plane,
-            n,
-            bytes,
-            spans,
-            offsets.len(),
-            false,
-            upright,
-            slots,
-        ),
-        Loaded::NotLoaded(r) => Recognized::NotRecognized(r),
-    }
+    let n = lent::load(rows, kinds, regions, offsets, sizes, bytes, plane, spans)?;
+    tables::plane_table(plane, n, bytes, spans, offsets.len(), false, upright, slots)
 }
 
 // The record of a lent plane.
@@ -57,7 +45,7 @@ pub fn lent_record(
     upright: &mut [u32],
     slots: &mut [u32],
     out: &mut [u8],
-) -> Outcome
+) -> Result<usize, Refusal>
     requires { LentRoom plane.old spans.old upright.old slots.old }
     ensures outcome { result ≡ outcome_of (table_read (lent_policy (record { rows = rows.now; kinds = kinds.now; regions = regions.now; offsets = offsets.now; sizes = sizes.now; bytes = bytes.now }))) (length out.old) }
     ensures out { out.new ≡ record_of (table_read (lent_policy (record { rows = rows.now; kinds = kinds.now; regions = regions.now; offsets = offsets.now; sizes = sizes.now; bytes = bytes.now }))) out.old }

@@ -6,8 +6,6 @@ ghost use Rattle.utf8.specs.Utf8.{check};
 ghost use Rattle.white_space.specs.Lines.{ValidTo};
 ghost use Rattle.line_checks.specs.LineEnds.{Plain, NextFrom};
 
-use utf8::Checked;
-
 // ASCII from 0x20 on.
 fn is_plain(b: u8) -> bool
     ensures { result ≡ true → (0x20 ≤ b) × (b ≤ 0x7F) }
@@ -40,6 +38,7 @@ fn skip_plain(s: &[u8], at: usize) -> usize
     ensures { (at ≤ result) × (result ≤ length s.now) × Plain s.now at result }
 {
     let mut p = at;
+    // No `for`: each turn goes on by sixteen bytes, and where it ends is the answer.
     while 16 <= s.len() - p {
         if !sixteen_plain(s, p) {
             return p;
@@ -73,6 +72,7 @@ pub fn line_end(s: &[u8], from: usize) -> LineEnd
     ensures valid { ValidTo s.now from result.next result.valid }
 {
     let mut p = skip_plain(s, from);
+    // No `for`: each turn goes on by the bytes of a code point.
     while p < s.len() {
         let n = utf8::passed(s, p);
         if n == 0 {
@@ -93,11 +93,12 @@ pub fn line_end(s: &[u8], from: usize) -> LineEnd
 }
 
 // The check of the bytes from an index on, line by line.
-pub fn validate_lines(s: &[u8], from: usize) -> Checked
+pub fn validate_lines(s: &[u8], from: usize) -> Result<(), usize>
     ensures { result ≡ check 0 from (drop from s.now) }
 {
     let mut at = from;
     let mut valid = from;
+    // No `for`: each turn goes on by a line.
     while at < s.len() {
         let e = line_end(s, at);
         at = e.next;

@@ -1,43 +1,28 @@
 -- The bytes of a line that are being read.
+use Rattle.std.specs.Prelude.{Option, Some, None}
 use mathlib.Core.Bool.{Bool, true, false}
-use mathlib.Core.Option.{Option, none, some}
 use mathlib.Core.Path.{◌≡◌, refl, sym, ap, subst, ◌∙◌}
 use mathlib.Core.List.{List, [], ◌∷◌, ◌++◌, append_assoc, append-nil}
 use Prim.Native.Nat.{ℕ, suc, ◌+◌, ◌-◌, ◌≤◌, ◌<◌}
 use native.Mathlib.Numerals.{add-one}
 use native.Mathlib.Omega.{arith}
-use borrow.Author.Tests.{le-leb, lt-leb, eqb-true, eqb-false, leb-true}
+use borrow.Author.Tests.{eqb-true, eqb-false, leb-true}
 use lib.Dec.{eqb, leb}
 use lib.ListN.{length, take, drop, set, length-set, drop_of_length-le}
 use lib.Seq.{take-suc-set, length-take-le, drop-drop}
 use Rattle.lists.proofs.Parts.{at_cons}
 use Rattle.lists.proofs.Tests.{by_flag}
-use Rattle.numerals.specs.RuleNumbers.{number_of, number_found}
-use Rattle.numerals.specs.declared.RuleNumber.{RuleNumber}
-use Rattle.numerals.specs.declared.RuleNumber.TheVariants.{Number, NoNumber}
+use Rattle.numerals.specs.RuleNumbers.{number_of}
 use Rattle.print.specs.Lines.{blank}
-use Rattle.lines.specs.Texts.{before, FirstAt, at_most, flagged, on_number, onto, nothing_in, bytes_in, text_of, bytes_by, TextWithin}
-use Rattle.lines.specs.declared.LineText.{LineText}
-use Rattle.lines.specs.declared.LineText.TheVariants.{Text}
-
--- a word's number
-module _ (w : List ℕ) (f : RuleNumber) (e : number_found f ≡ number_of w) (most : ℕ) where
-  pub number_small : {n : ℕ} → f ≡ Number n → n ≤ most → at_most most (number_of w) ≡ some n
-  number_small {n} t h = ap (at_most most) (sym e ∙ ap number_found t) ∙ rw (le-leb n most h)
-
-  pub number_large : {n : ℕ} → f ≡ Number n → most < n → at_most most (number_of w) ≡ none
-  number_large {n} t h = ap (at_most most) (sym e ∙ ap number_found t) ∙ rw (lt-leb n most h)
-
-  pub no_number : f ≡ NoNumber → at_most most (number_of w) ≡ none
-  no_number t = ap (at_most most) (sym e ∙ ap number_found t)
+use Rattle.lines.specs.Texts.{before, FirstAt, at_most, on_number, onto, nothing_in, bytes_in, text_of, bytes_by, TextWithin}
 
 onto_nil : (x : Option (List ℕ)) → onto [] x ≡ x
-onto_nil none = refl
-onto_nil (some y) = refl
+onto_nil None = refl
+onto_nil (Some y) = refl
 
 onto-onto : (x y : List ℕ) (z : Option (List ℕ)) → onto x (onto y z) ≡ onto (x ++ y) z
-onto-onto x y none = refl
-onto-onto x y (some z) = ap some (sym (append_assoc x y z))
+onto-onto x y None = refl
+onto-onto x y (Some z) = ap Some (sym (append_assoc x y z))
 
 -- a word's length, and what stands behind the word
 module _ {s : List ℕ} {at end : ℕ} (f : FirstAt s at blank end) where
@@ -70,34 +55,35 @@ module _ {line : List ℕ} {from count : ℕ} {text₀ text : List ℕ} {at k : 
     left = omega arith
 
     -- the line ends too early
-    pub reading_cut : length line ≤ at → bytes_in count (drop from line) ≡ none
+    pub reading_cut : length line ≤ at → bytes_in count (drop from line) ≡ None
     unfolding bytes_in
     reading_cut l = q.same ∙ rw (left, drop_of_length-le line l)
 
-    module _ (l : at < length line) {end : ℕ} (hit : Bool) (v : ℕ) (f : FirstAt line (at + 1) blank end)
-        (n : at_most 255 (number_of (take (end - (at + 1)) (drop (at + 1) line))) ≡ flagged hit v) where
-      next : bytes_in (count - k) (drop at line) ≡ on_number (flagged hit v) (λ b. onto (b ∷ []) (bytes_in (count - (k + 1)) (drop end line)))
+    module _ (l : at < length line) {end : ℕ} (f : FirstAt line (at + 1) blank end) where
+      next : {x : Option ℕ} → x ≡ at_most 255 (number_of (take (end - (at + 1)) (drop (at + 1) line)))
+          → bytes_in (count - k) (drop at line) ≡ on_number x (λ b. onto (b ∷ []) (bytes_in (count - (k + 1)) (drop end line)))
       unfolding bytes_in
-      next =
+      next n =
           rw (left, at_cons line at 0 l)
-          (rw (behind-word f, ← f.same, n))
+          (rw (behind-word f, ← f.same, ← n))
 
-      pub reading_bad : hit ≡ false → bytes_in count (drop from line) ≡ none
-      reading_bad t = q.same ∙ ap (onto (take k text)) next ∙ rw t
+      -- its word is no byte, or one
+      pub reading_bad : None ≡ at_most 255 (number_of (take (end - (at + 1)) (drop (at + 1) line))) → bytes_in count (drop from line) ≡ None
+      reading_bad n = q.same ∙ ap (onto (take k text)) (next n)
 
-      pub reading_more : hit ≡ true → Reading line from count text₀ (set text k v) end (k + 1)
-      reading_more t =
+      pub reading_more : {v : ℕ} → Some v ≡ at_most 255 (number_of (take (end - (at + 1)) (drop (at + 1) line)))
+          → Reading line from count text₀ (set text k v) end (k + 1)
+      reading_more {v} n =
           let b = q.fits in
           let g = q.long in
           let x : Option (List ℕ) = bytes_in (count - (k + 1)) (drop end line) in
-          let e : bytes_in (count - k) (drop at line) ≡ onto (v ∷ []) x = next ∙ rw t in
           let w : take (k + 1) (set text k v) ≡ take k text ++ (v ∷ []) = rw (add-one k) (take-suc-set text k v (omega arith)) in
           record {
             along = omega arith;
             inside = f.high;
             fits = q.fits;
             long = length-set text k v ∙ q.long;
-            same = q.same ∙ ap (onto (take k text)) e ∙ onto-onto (take k text) (v ∷ []) x ∙ rw w;
+            same = q.same ∙ ap (onto (take k text)) (next n) ∙ onto-onto (take k text) (v ∷ []) x ∙ rw w;
           }
 
   -- all bytes are read
@@ -109,48 +95,47 @@ module _ {line : List ℕ} {from count : ℕ} {text₀ text : List ℕ} {at k : 
       let s : bytes_in count (drop from line) ≡ onto (take count text) (nothing_in (drop at line)) =
       q.same ∙ rw (z, e) in
       by_flag (eqb at (length line))
-      (λ t. rw t (s ∙ rw (drop_of_length-le line {i = at} (omega (arith, eqb-true at (length line) t))) (ap some (append-nil (take count text)))))
+      (λ t. rw t (s ∙ rw (drop_of_length-le line {i = at} (omega (arith, eqb-true at (length line) t))) (ap Some (append-nil (take count text)))))
       (λ t. rw t (s ∙ rw (at_cons line at 0 (short (eqb-false at (length line) t)))))
     where
       short : (at ≡ length line → ⊥) → at < length line
       short n = omega (arith, n, q.inside)
 
 -- a number that is not too large
-small : (most v : ℕ) (x : Option ℕ) → at_most most x ≡ some v → v ≤ most
-small most v none e = absurd_none e
+small : (most v : ℕ) (x : Option ℕ) → at_most most x ≡ Some v → v ≤ most
+small most v None e = absurd_none e
   where
-    absurd_none : {A : Type 0} → none ≡ some v → A
+    absurd_none : {A : Type 0} → None ≡ Some v → A
     absurd_none e = let z : ◌≡◌ {A = ℕ} 0 1 = cc in absurd (omega arith)
-small most v (some n) e = go (leb n most) refl
+small most v (Some n) e = go (leb n most) refl
   where
     go : (t : Bool) → leb n most ≡ t → v ≤ most
-    go true t = let q : some n ≡ some v = rw t at e in let r : n ≡ v = cc in omega (arith, leb-true n most t)
-    go false t = let q : none ≡ some v = rw t at e in let z : ◌≡◌ {A = ℕ} 0 1 = cc in absurd (omega arith)
+    go true t = let q : Some n ≡ Some v = rw t at e in let r : n ≡ v = cc in omega (arith, leb-true n most t)
+    go false t = let q : None ≡ Some v = rw t at e in let z : ◌≡◌ {A = ℕ} 0 1 = cc in absurd (omega arith)
 
-pub byte_small : (w : List ℕ) (hit : Bool) (v : ℕ) → at_most 255 (number_of w) ≡ flagged hit v → hit ≡ true → v ≤ 255
-byte_small w hit v n t = small 255 v (number_of w) (n ∙ rw t)
+pub byte_small : (w : List ℕ) {v : ℕ} → Some v ≡ at_most 255 (number_of w) → v ≤ 255
+byte_small w {v} n = small 255 v (number_of w) (sym n)
 
 -- a line's count of bytes, and its bytes
-module _ {line : List ℕ} (most : ℕ) {end : ℕ} (hit : Bool) (v : ℕ) (f : FirstAt line 0 blank end)
-    (n : at_most most (number_of (take (end - 0) (drop 0 line))) ≡ flagged hit v) where
-  counted : text_of most line ≡ on_number (flagged hit v) (λ n. bytes_in n (drop end line))
+module _ {line : List ℕ} (most : ℕ) {end : ℕ} (f : FirstAt line 0 blank end) where
+  counted : {x : Option ℕ} → x ≡ at_most most (number_of (take (end - 0) (drop 0 line))) → text_of most line ≡ on_number x (λ n. bytes_in n (drop end line))
   unfolding text_of
-  counted = rw (behind-word f, ← f.same, n)
+  counted n = rw (behind-word f, ← f.same, ← n)
 
-  pub text_bad : hit ≡ false → text_of most line ≡ none
-  text_bad t = counted ∙ rw t
+  pub text_bad : None ≡ at_most most (number_of (take (end - 0) (drop 0 line))) → text_of most line ≡ None
+  text_bad n = counted n
 
-  pub text-read : hit ≡ true → text_of most line ≡ bytes_in v (drop end line)
-  text-read t = counted ∙ rw t
+  pub text-read : {v : ℕ} → Some v ≡ at_most most (number_of (take (end - 0) (drop 0 line))) → text_of most line ≡ bytes_in v (drop end line)
+  text-read n = counted n
 
-  pub count_small : hit ≡ true → v ≤ most
-  count_small t = small most v (number_of (take (end - 0) (drop 0 line))) (n ∙ rw t)
+  pub count_small : {v : ℕ} → Some v ≡ at_most most (number_of (take (end - 0) (drop 0 line))) → v ≤ most
+  count_small {v} n = small most v (number_of (take (end - 0) (drop 0 line))) (sym n)
 
-pub bytes_yes : {t : Bool} (n : ℕ) (d : List ℕ) → t ≡ true → bytes_by t n d ≡ some (take n d)
+pub bytes_yes : {t : Bool} (n : ℕ) (d : List ℕ) → t ≡ true → bytes_by t n d ≡ Some (take n d)
 bytes_yes n d e = rw e
 
-pub bytes_no : {t : Bool} (n : ℕ) (d : List ℕ) → t ≡ false → bytes_by t n d ≡ none
+pub bytes_no : {t : Bool} (n : ℕ) (d : List ℕ) → t ≡ false → bytes_by t n d ≡ None
 bytes_no n d e = rw e
 
-pub within : (r : LineText) (d : List ℕ) {n : ℕ} → TextWithin r d → r ≡ Text n → n ≤ length d
-within r d {n} w e = subst (λ (r : LineText). TextWithin r d) e w
+pub within : (r : Option ℕ) (d : List ℕ) {n : ℕ} → TextWithin r d → r ≡ Some n → n ≤ length d
+within r d {n} w e = subst (λ (r : Option ℕ). TextWithin r d) e w

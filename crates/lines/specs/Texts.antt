@@ -1,11 +1,8 @@
 -- Texts as the judge reads them behind a line's kind: the count of bytes and the bytes, one blank between two numbers.
-use Rattle.std.specs.Prelude.{Bool, true, false, List, [], ◌∷◌, ◌++◌, ◌≡◌, ℕ, zero, suc, ◌-◌, ◌≤◌, ◌<◌, eqb, leb, length, get_or, take, drop}
-use Rattle.std.proofs.Math.Option.{Option, none, some}
+use Rattle.std.specs.Prelude.{Bool, true, false, List, [], ◌∷◌, ◌++◌, ◌≡◌, ℕ, zero, suc, ◌-◌, ◌≤◌, ◌<◌, eqb, leb, length, get_or, take, drop, Option, None, Some}
 use Rattle.lists.specs.Choose.{choose}
 use Rattle.numerals.specs.RuleNumbers.{number_of}
 use Rattle.print.specs.Lines.{blank}
-use Rattle.lines.specs.declared.LineText.{LineText}
-use Rattle.lines.specs.declared.LineText.TheVariants.{Text, Malformed}
 
 -- s up to the first m
 unfoldable pub before : ℕ → List ℕ → List ℕ
@@ -21,32 +18,27 @@ pub record FirstAt (s : List ℕ) (at m r : ℕ) : Type 0 where
 
 -- a number below a bound
 abbrev pub at_most : ℕ → Option ℕ → Option ℕ
-at_most most none = none
-at_most most (some n) = choose (leb n most) (some n) none
-
--- a number by a flag
-abbrev pub flagged : Bool → ℕ → Option ℕ
-flagged true n = some n
-flagged false n = none
+at_most most None = None
+at_most most (Some n) = choose (leb n most) (Some n) None
 
 abbrev pub on_number : Option ℕ → (ℕ → Option (List ℕ)) → Option (List ℕ)
-on_number none k = none
-on_number (some n) k = k n
+on_number None k = None
+on_number (Some n) k = k n
 
 -- x in front of a text
 abbrev pub onto : List ℕ → Option (List ℕ) → Option (List ℕ)
-onto x none = none
-onto x (some y) = some (x ++ y)
+onto x None = None
+onto x (Some y) = Some (x ++ y)
 
 -- nothing may be left
 abbrev pub nothing_in : List ℕ → Option (List ℕ)
-nothing_in [] = some []
-nothing_in (c ∷ s) = none
+nothing_in [] = Some []
+nothing_in (c ∷ s) = None
 
 -- n bytes, each a number behind a blank, and nothing more
 unfoldable pub bytes_in : ℕ → List ℕ → Option (List ℕ)
 bytes_in zero s = nothing_in s
-bytes_in (suc n) [] = none
+bytes_in (suc n) [] = None
 bytes_in (suc n) (c ∷ s) =
     on_number (at_most 255 (number_of (before blank s)))
     (λ b. onto (b ∷ []) (bytes_in n (drop (length (before blank s)) s)))
@@ -59,15 +51,15 @@ text_of most s =
 
 -- the n bytes of a slice, by a flag
 abbrev pub bytes_by : Bool → ℕ → List ℕ → Option (List ℕ)
-bytes_by true n d = some (take n d)
-bytes_by false n d = none
+bytes_by true n d = Some (take n d)
+bytes_by false n d = None
 
 -- what was read of a line, with the bytes in the slice d
-abbrev pub text_in : LineText → List ℕ → Option (List ℕ)
-text_in (Text n) d = some (take n d)
-text_in Malformed d = none
+abbrev pub text_in : Option ℕ → List ℕ → Option (List ℕ)
+text_in (Some n) d = Some (take n d)
+text_in None d = None
 
 -- the bytes stand in the slice
-abbrev pub TextWithin : LineText → List ℕ → Type 0
-TextWithin (Text n) d = n ≤ length d
-TextWithin Malformed d = Unit {0}
+abbrev pub TextWithin : Option ℕ → List ℕ → Type 0
+TextWithin (Some n) d = n ≤ length d
+TextWithin None d = Unit {0}

@@ -1,7 +1,7 @@
 -- A record's lines are the lines of its table.
+use Rattle.std.specs.Prelude.{None, Some}
 use mathlib.Core.Path.{◌≡◌, refl, sym, ap, ◌∙◌}
 use mathlib.Core.List.{List, [], ◌∷◌, ◌++◌}
-use mathlib.Core.Option.{none, some}
 use Prim.Native.Nat.{ℕ, suc, ◌+◌, ◌^◌, ◌<◌}
 use native.Mathlib.Omega.{arith}
 use borrow.Author.Tests.{ne_eqb}
@@ -16,8 +16,8 @@ use Rattle.listing.proofs.ReadLaws.{Holds, word_there, count-read, holds-all, ho
 
 slot_line_lem : {r : List ℕ} {x y : List ℕ} (i o : ℕ) (u : Text) (us : List Text) → Holds r i o (u ∷ us) x y → slot_line r i ≡ text_line i o u
 unfolding text_line
-slot_line_lem {r} i o none us h = sym (slot_absent r i (sym (offset_read h)) (sym (length-read h)) refl)
-slot_line_lem {r} {x} {y} i o (some t) us h =
+slot_line_lem {r} i o None us h = sym (slot_absent r i (sym (offset_read h)) (sym (length-read h)) refl)
+slot_line_lem {r} {x} {y} i o (Some t) us h =
     let p = h.behind in
     sym (slot_present r i (sym (offset_read h)) (sym (length-read h)) (rw (ne_eqb o 0 (λ e. omega arith))))
     ∙ ap (present_line i o (length t)) (ap (take (length t)) (text_there h) ∙ take_at t (packed us ++ y) (length t) refl)

@@ -1,7 +1,7 @@
 -- What reading finds in the bytes of an encoded table: its words, and slot by slot its texts.
+use Rattle.std.specs.Prelude.{None, Some}
 use mathlib.Core.Path.{◌≡◌, refl, sym, ap, ◌∙◌}
 use mathlib.Core.List.{List, ◌∷◌, ◌++◌, append_assoc}
-use mathlib.Core.Option.{none, some}
 use Prim.Native.Nat.{ℕ, suc, ◌+◌, ◌*◌, ◌^◌, ◌≤◌, ◌<◌}
 use native.Mathlib.Nat.{add-zero}
 use native.Mathlib.Omega.{arith}
@@ -58,21 +58,21 @@ holds-all t d c h =
     }
 
 length_slot : (o : ℕ) (u : Text) → length (slot_of o u) ≡ 8
-length_slot o none = refl
-length_slot o (some t) = refl
+length_slot o None = refl
+length_slot o (Some t) = refl
 
 -- the offset in the slot of a text
 abbrev pub offset_for : ℕ → Text → ℕ
-offset_for o none = 0
-offset_for o (some t) = o
+offset_for o None = 0
+offset_for o (Some t) = o
 
 slot_words : (o : ℕ) (u : Text) → slot_of o u ≡ word (offset_for o u) ++ word (length (bytes_of u))
-slot_words o none = refl
-slot_words o (some t) = refl
+slot_words o None = refl
+slot_words o (Some t) = refl
 
 offset_most : (o : ℕ) (u : Text) → offset_for o u ≤ o
-offset_most o none = omega arith
-offset_most o (some t) = omega arith
+offset_most o None = omega arith
+offset_most o (Some t) = omega arith
 
 module _ {r : List ℕ} {i o : ℕ} {u : Text} {us : List Text} {x y : List ℕ} (h : Holds r i o (u ∷ us) x y) where
   -- the text, and what is packed behind it

@@ -1,7 +1,7 @@
 -- The lines of document 01, "Table record", by computation.
+use Rattle.std.specs.Prelude.{Some}
 use mathlib.Core.Path.{◌≡◌, refl}
 use mathlib.Core.List.{List, [], ◌∷◌, ◌++◌}
-use mathlib.Core.Option.{some}
 use Prim.Native.Char.{code}
 use Prim.Native.Nat.{ℕ}
 use Prim.Native.String.{String, [] as end, ◌∷◌ as ◌then◌}
@@ -31,6 +31,6 @@ unfolding record_lines head_lines count_lines slot_lines slot_line absent_line p
 sample_lines = refl
 
 -- a present empty text leaves the blank before it
-pub empty_line : text_line 3 112 (some []) ≡ printed ("slot 3 112 0 " ∷ [])
+pub empty_line : text_line 3 112 (Some []) ≡ printed ("slot 3 112 0 " ∷ [])
 unfolding text_line present_line part_words width_by
 empty_line = refl

@@ -1,14 +1,13 @@
 -- The lines of a table's record, from its numbers and texts.
-use Rattle.std.specs.Prelude.{List, [], ◌∷◌, ◌++◌, ℕ, suc, ◌+◌, length}
-use Rattle.std.proofs.Math.Option.{none, some}
+use Rattle.std.specs.Prelude.{List, [], ◌∷◌, ◌++◌, ℕ, suc, ◌+◌, length, None, Some}
 use Rattle.record.specs.Policy.{Text}
 use Rattle.record.specs.Record.{Table, bytes_of, text_offset, slots_in, total}
 use Rattle.listing.specs.RecordLines.{absent_line, present_line, count_lines, head_lines}
 
 -- a text in slot i, at the running offset o
 unfoldable pub text_line : ℕ → ℕ → Text → List ℕ
-text_line i o none = absent_line i
-text_line i o (some t) = present_line i o (length t) t
+text_line i o None = absent_line i
+text_line i o (Some t) = present_line i o (length t) t
 
 -- texts from slot i and the running offset o on
 unfoldable pub text_lines : ℕ → ℕ → List Text → List ℕ

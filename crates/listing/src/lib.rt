@@ -7,21 +7,15 @@ ghost use Rattle.print.specs.Lines.{count_line};
 ghost use Rattle.record.specs.Compared.{word_at};
 ghost use Rattle.listing.specs.RecordLines.{is_absent, offset_of, length_of, part_words, slot_line, counts_read, count_room, head_read, head_room, record_lines, Sound, line_room};
 
-fn wide(x: u8) -> usize
-    ensures { (result ≡ x) × (result < 256) }
-{
-    x as usize
-}
-
 // The word at index `at`.
 fn word_at(bytes: &[u8], at: usize) -> usize
     requires { at + 4 ≤ length bytes.now }
     ensures { result ≡ word_at bytes.now at }
 {
-    let a = wide(bytes[at]);
-    let b = wide(bytes[at + 1]);
-    let c = wide(bytes[at + 2]);
-    let d = wide(bytes[at + 3]);
+    let a = usize::from(bytes[at]);
+    let b = usize::from(bytes[at + 1]);
+    let c = usize::from(bytes[at + 2]);
+    let d = usize::from(bytes[at + 3]);
     a + 256 * b + 65536 * c + 16777216 * d
 }
 
@@ -97,10 +91,8 @@ pub fn put_record(out: &mut [u8], at: usize, bytes: &[u8]) -> usize
 {
     let count = word_at(bytes, 32);
     let mut n = put_head(out, at, bytes);
-    let mut i = 0;
-    while i < count {
+    for i in 0..count {
         n = put_slot(out, n, bytes, i);
-        i += 1;
     }
     n
 }

@@ -1,11 +1,12 @@
 -- What holds of every element of a list.
+use Rattle.std.specs.Prelude.{Result, Ok}
 use mathlib.Core.Path.{◌≡◌, subst}
 use mathlib.Core.Bool.{Bool, true, false}
 use mathlib.Core.List.{List, [], ◌∷◌, ◌++◌}
 use Prim.Native.Nat.{ℕ, zero, suc, ◌<◌}
 use native.Mathlib.Omega.{arith}
 use lib.ListN.{length, get_or}
-use Rattle.lists.specs.Answer.{Answer, ok, each}
+use Rattle.lists.specs.Answer.{each}
 use Rattle.lists.specs.Choose.{choose}
 use Rattle.lists.specs.Run.{run}
 use Rattle.lists.proofs.AnswerLaws.{then_ok}
@@ -44,8 +45,8 @@ module _ {A : Type 0} (Q : A → Type 0) where
   all-choose false l m p q = q
 
 -- what every step keeps, the steps one after the other keep
-pub each_keeps : {R A S : Type 0} (Q : S → Type 0) (f : A → S → Answer R S) → ((a : A) (s t : S) → f a s ≡ ok t → Q s → Q t)
-    → (l : List A) (s t : S) → each f l s ≡ ok t → Q s → Q t
+pub each_keeps : {R A S : Type 0} (Q : S → Type 0) (f : A → S → Result S R) → ((a : A) (s t : S) → f a s ≡ Ok t → Q s → Q t)
+    → (l : List A) (s t : S) → each f l s ≡ Ok t → Q s → Q t
 unfolding each
 each_keeps Q f g [] s t e q = let z : s ≡ t = cc in subst Q z q
 each_keeps Q f g (a ∷ l) s t e q =

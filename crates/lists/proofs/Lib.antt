@@ -12,5 +12,5 @@ pub mod PlaceLaws
 pub mod LineLaws
 pub mod RectLaws
 pub mod TransposeLaws
-pub mod Clearing
+pub mod Filling
 pub mod Copying

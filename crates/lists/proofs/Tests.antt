@@ -1,7 +1,7 @@
 -- Tests and choices.
+use Rattle.std.specs.Prelude.{None, Some}
 use mathlib.Core.Path.{◌≡◌, refl}
 use mathlib.Core.Bool.{Bool, true, false, ◌&&◌}
-use mathlib.Core.Option.{none, some}
 use Prim.Native.Nat.{ℕ}
 use native.Mathlib.Omega.{arith}
 use Rattle.lists.specs.Choose.{choose}
@@ -30,6 +30,6 @@ choose_ap f true a b = refl
 choose_ap f false a b = refl
 
 -- a choice that is there
-pub choose-some : {A : Type 0} (t : Bool) (a b : A) → choose t (some a) none ≡ some b → (t ≡ true) × (a ≡ b)
+pub choose-some : {A : Type 0} (t : Bool) (a b : A) → choose t (Some a) None ≡ Some b → (t ≡ true) × (a ≡ b)
 choose-some true a b e = (refl, cc)
 choose-some false a b e = let w : ◌≡◌ {A = ℕ} 0 1 = cc in absurd (omega arith)

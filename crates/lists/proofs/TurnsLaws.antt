@@ -12,17 +12,3 @@ use Rattle.lists.specs.Turns.{turns}
 pub turn_more : {A : Type 0} (g : ℕ → List A → List A) (i : ℕ) (s : List A) → g i (turns g i s) ≡ turns g (i + 1) s
 unfolding turns
 turn_more g i s = rw add-one
-
--- a pass from the front has come to i: the new list up to i, and the old one from there
-module _ {A : Type 0} where
-  store : (new old : List A) (i : ℕ) (z : A) → i < length new → i < length old → set (take i new ++ drop i old) i (get_or new i z) ≡ take (suc i) new ++ drop (suc i) old
-  store [] old i z h k = absurd (omega arith)
-  store (x ∷ xs) [] i z h k = absurd (omega arith)
-  store (x ∷ xs) (y ∷ ys) zero z h k = refl
-  store (x ∷ xs) (y ∷ ys) (suc i) z h k = ap (λ (l : List A). x ∷ l) (store xs ys i z (omega arith) (omega arith))
-
-  pub pass-more : (new old s : List A) (i : ℕ) (v z : A) → i < length new → i < length old → v ≡ get_or new i z → s ≡ take i new ++ drop i old → set s i v ≡ take (i + 1) new ++ drop (i + 1) old
-  pass-more new old s i v z h k e q = rw (q, e, add-one) (store new old i z h k)
-
-  pub pass_end : (new old s : List A) (i : ℕ) → length new ≤ i → length old ≤ i → s ≡ take i new ++ drop i old → s ≡ new
-  pass_end new old s i h k q = q ∙ rw (take_all i new h, drop_of_length-le old k, append-nil new)

@@ -1,17 +1,32 @@
 -- A run of rects that is filled, and searched for the first that contains a frame.
-use mathlib.Core.{Path.◌≡◌, Path.refl, Path.sym, Path.ap, Path.◌∙◌, Path.subst, Bool.Bool, Bool.true, Bool.false, Bool.◌&&◌, List.List, List.[], List.◌∷◌, List.◌++◌, List.append_assoc}
+use Rattle.std.specs.Prelude.{Ok, Err, Option, None, Some}
+use mathlib.Core.Path.{◌≡◌, refl, sym, ap, ◌∙◌, subst}
+use mathlib.Core.Bool.{Bool, true, false, ◌&&◌}
+use mathlib.Core.List.{List, [], ◌∷◌, ◌++◌, append_assoc}
 use Prim.Native.Nat.{ℕ, zero, suc, ◌+◌, ◌-◌, ◌≤◌, ◌<◌}
-use native.Mathlib.{Nat.sub-zero, Nat.zero-add, Nat.add-zero, Numerals.add-one, Omega.arith}
-use lib.{Dec.ltb, Dec.leb, ListN.length, ListN.get_or, ListN.set, ListN.take, ListN.drop, Seq.drop-cons, Seq.set-append_seam, Seq.take_at, Seq.get_or-take}
+use native.Mathlib.Nat.{sub-zero, zero-add, add-zero}
+use native.Mathlib.Numerals.{add-one}
+use native.Mathlib.Omega.{arith}
+use lib.Dec.{ltb, leb}
+use lib.ListN.{length, get_or, set, take, drop}
+use lib.Seq.{drop-cons, set-append_seam, take_at, get_or-take}
 use borrow.Author.Tests.{lt-ltb, le-ltb, ltb-true, ltb-false, leb-true}
-use Rattle.lists.{specs.Answer.ok, specs.Answer.refused, specs.Choose.choose, specs.Run.run, proofs.AnswerLaws.refused-ok, proofs.RunLaws.length_run, proofs.RunLaws.build-next, proofs.RunLaws.get_or-build, proofs.Tests.by_flag, proofs.Tests.both}
-use Rattle.model.{specs.Geometry.contains_of, specs.Refusals.Reading, specs.declared.Rect.Rect, specs.declared.Refusal.TheVariants.RegionNotFound}
+use Rattle.lists.specs.Choose.{choose}
+use Rattle.lists.specs.Run.{run}
+use Rattle.lists.proofs.AnswerLaws.{refused-ok}
+use Rattle.lists.proofs.RunLaws.{length_run, build-next, get_or-build}
+use Rattle.lists.proofs.Tests.{by_flag, both}
+use Rattle.model.specs.Geometry.{contains_of}
+use Rattle.model.specs.Refusals.{Reading}
+use Rattle.model.specs.declared.Rect.{Rect}
+use Rattle.model.specs.declared.Refusal.TheVariants.{RegionNotFound}
 use Rattle.rects.specs.Rects.{rect_at, rects_of}
-use Rattle.lookup.specs.{Lookup.region_from, Lookup.region_of, Lookup.first_of, Numbers.none, Numbers.Above, Numbers.Without}
+use Rattle.lookup.specs.Lookup.{region_from, region_of, first_of}
+use Rattle.lookup.specs.Numbers.{none, Above, Without, WithoutAny, number_in}
 
 -- the region of a frame, by the number of the first rect that contains it
 abbrev by_number : Rect → ℕ → ℕ → ℕ → Reading ℕ
-by_number f i n count = choose (ltb n count) (ok (i + n)) (refused (RegionNotFound f.left f.top))
+by_number f i n count = choose (ltb n count) (Ok (i + n)) (Err (RegionNotFound f.left f.top))
 
 region-from : (f : Rect) (i : ℕ) (rs : List Rect) → region_from f i rs ≡ by_number f i (first_of rs f) (length rs)
 unfolding region_from first_of
@@ -19,7 +34,7 @@ region-from f i [] = refl
 region-from f i (r ∷ rs) = go (contains_of r f) (region-from f (suc i) rs)
   where
     go : (t : Bool) → region_from f (suc i) rs ≡ by_number f (suc i) (first_of rs f) (length rs)
-        → choose t (ok i) (region_from f (suc i) rs) ≡ by_number f i (choose t 0 (suc (first_of rs f))) (suc (length rs))
+        → choose t (Ok i) (region_from f (suc i) rs) ≡ by_number f i (choose t 0 (suc (first_of rs f))) (suc (length rs))
     go true e = rw (lt-ltb 0 (suc (length rs)) (omega arith), add-zero i)
     go false e =
         e ∙ by_flag (ltb (first_of rs f) (length rs))
@@ -28,16 +43,16 @@ region-from f i (r ∷ rs) = go (contains_of r f) (region-from f (suc i) rs)
         rw (y, lt-ltb (suc (first_of rs f)) (suc (length rs)) (omega (arith, ltb-true (first_of rs f) (length rs) y)), z))
         (λ n. rw (n, le-ltb (suc (first_of rs f)) (suc (length rs)) (omega (arith, ltb-false (first_of rs f) (length rs) n))))
 
-pub region-first : (rs : List Rect) (f : Rect) → region_of rs f ≡ choose (ltb (first_of rs f) (length rs)) (ok (first_of rs f)) (refused (RegionNotFound f.left f.top))
+pub region-first : (rs : List Rect) (f : Rect) → region_of rs f ≡ choose (ltb (first_of rs f) (length rs)) (Ok (first_of rs f)) (Err (RegionNotFound f.left f.top))
 region-first rs f = region-from f 0 rs ∙ rw (zero-add (first_of rs f))
 
 -- the number of a region is below their count
-pub region_number_lem : (rs : List Rect) (f : Rect) (i : ℕ) → region_of rs f ≡ ok i → i < length rs
+pub region_number_lem : (rs : List Rect) (f : Rect) (i : ℕ) → region_of rs f ≡ Ok i → i < length rs
 region_number_lem rs f i e =
-    let q : choose (ltb (first_of rs f) (length rs)) (ok (first_of rs f)) (refused (RegionNotFound f.left f.top)) ≡ ok i = sym (region-first rs f) ∙ e in
+    let q : choose (ltb (first_of rs f) (length rs)) (Ok (first_of rs f)) (Err (RegionNotFound f.left f.top)) ≡ Ok i = sym (region-first rs f) ∙ e in
     by_flag (ltb (first_of rs f) (length rs))
     (λ y.
-    let k : ◌≡◌ {A = Reading ℕ} (ok (first_of rs f)) (ok i) = rw y at q in
+    let k : ◌≡◌ {A = Reading ℕ} (Ok (first_of rs f)) (Ok i) = rw y at q in
     let z : first_of rs f ≡ i = cc in
     omega (arith, ltb-true (first_of rs f) (length rs) y))
     (λ n. refused-ok (rw n at q))
@@ -50,6 +65,10 @@ first-few (r ∷ rs) f = go (contains_of r f) (first-few rs f)
     go : (t : Bool) → first_of rs f ≤ length rs → choose t 0 (suc (first_of rs f)) ≤ suc (length rs)
     go true e = omega arith
     go false e = omega arith
+
+pub number-few : (rs : List Rect) (o : Option Rect) → number_in rs o ≤ length rs
+number-few rs None = omega arith
+number-few rs (Some f) = first-few rs f
 
 -- the search among the first n of a run has come to rect i
 pub record Searching (f : Rect) (l : List Rect) (n i : ℕ) : Type 0 where
@@ -103,6 +122,11 @@ without_above l d n i row f e few a b j h =
     let z : rect_at d j ≡ get_or l j none =
     sym (get_or-build n (rect_at d) j none (omega arith)) ∙ ap (λ (t : List Rect). get_or t j none) (sym e) ∙ get_or-take n l j none (omega arith) in
     subst (λ (r : Rect). contains_of r f ≡ false) z (above_apart (rect_at d j) f row (a j h) b)
+
+-- the same of a frame that there may be
+pub without_any : (l : List Rect) (d : List ℕ) (n i row : ℕ) (o : Option Rect) → take n l ≡ rects_of d n → i ≤ n → Above d i row → ((f : Rect) → o ≡ Some f → row < f.bottom) → WithoutAny l i o
+without_any l d n i row None e few a b = tt
+without_any l d n i row (Some f) e few a b = without_above l d n i row f e few a (b f refl)
 
 -- a run whose first i rects are those of a slice of numbers
 abbrev pub filled : List Rect → List ℕ → ℕ → List Rect

@@ -1,16 +1,22 @@
 -- Frames that are numbered one after the other.
-use mathlib.Core.{Path.◌≡◌, Path.sym, Path.ap, Path.◌∙◌, Path.subst, Bool.true, List.List}
-use Prim.Native.Nat.{ℕ, ◌+◌, ◌*◌, ◌/◌, ◌%◌, ◌≤◌, ◌<◌, ◌^◌}
-use native.Mathlib.{Nat.le_trans, Nat.le-div_iff_mul-le, Nat.div-mul-le_self, Omega.arith}
-use lib.{Dec.ltb, ListN.length, ListN.get_or, ListN.set, Seq.get_or-set_same, Seq.get_or-set_other}
+use mathlib.Core.Path.{◌≡◌, sym, ap, ◌∙◌, subst}
+use mathlib.Core.Bool.{true}
+use mathlib.Core.List.{List}
+use Prim.Native.Nat.{ℕ, ◌+◌, ◌*◌, ◌/◌, ◌%◌, ◌≤◌, ◌<◌}
+use native.Mathlib.Nat.{le_trans, le-div_iff_mul-le, div-mul-le_self}
+use native.Mathlib.Omega.{arith}
+use lib.Dec.{ltb}
+use lib.ListN.{length, get_or, set}
+use lib.Seq.{get_or-set_same, get_or-set_other}
 use borrow.Author.Tests.{ltb-true, ltb-false}
-use Rattle.lists.{specs.Picture.canvas, specs.Picture.at, proofs.PlaceLaws.columns, proofs.PlaceLaws.at-canvas, proofs.RunLaws.length_run, proofs.Tests.by_flag, proofs.Tests.true_false}
-use Rattle.rects.specs.Rects.{rect_at, rects_of}
+use Rattle.lists.specs.Picture.{canvas, at}
+use Rattle.lists.proofs.PlaceLaws.{columns, at-canvas}
+use Rattle.lists.proofs.Tests.{by_flag, true_false}
+use Rattle.rects.specs.Rects.{rects_of}
 use Rattle.regions.specs.Regions.{Finder, is_corner}
-use Rattle.lookup.specs.{Lookup.first_of, Lookup.number_of, Lookup.Numbered, Numbers.Above, Numbers.number_in, Numbers.Seen, Numbers.Stored, declared.Sought.Sought}
-
-pub number_small : (s : Sought) (k n : ℕ) → k < 2 ^ 32 → n < 2 ^ 32 → number_in s k n < 2 ^ 32
-number_small s k n a b = by_flag s.framed (λ y. rw y a) (λ z. rw z b)
+use Rattle.lookup.specs.Lookup.{number_of, Numbered}
+use Rattle.lookup.specs.Numbers.{Above, number_in, Seen, Stored}
+use Rattle.lookup.specs.declared.Sought.{Sought}
 
 -- the frames before place i are numbered, by the first n rects of a slice; those before `from` end at or above the row under it
 pub record Numbering (find : Finder) (nums : List ℕ) (n : ℕ) (d : List ℕ) (w h : ℕ) (start : List ℕ) (i from : ℕ) (found : List ℕ) : Type 0 where
@@ -34,25 +40,23 @@ module _ {find : Finder} {nums : List ℕ} {n : ℕ} {d : List ℕ} {w h : ℕ} 
       let z : a / w ≤ b / w = (le-div_iff_mul-le (columns w h i less)).1 (le_trans (div-mul-le_self a w) l) in
       omega arith
 
-  module _ (to : ℕ) (few : to ≤ n) (above : Above nums to s.under) (k : ℕ) (ke : k ≡ first_of (rects_of nums n) s.frame) (out : List ℕ) (next : ℕ) (t : Stored s (number_in s k n) (h * w) found out next) where
+  module _ (to : ℕ) (few : to ≤ n) (above : Above nums to s.under) (k : ℕ) (ke : k ≡ number_in (rects_of nums n) s.frame) (out : List ℕ) (next : ℕ) (t : Stored s.at k (h * w) found out next) where
     above_on : s.at ≤ next → Above nums to (next / w + 1)
     above_on l j b = le_trans (above j b) (rw v.under (row_on s.at next l))
 
-    number : s.at < h * w → number_in s k n ≡ number_of find (rects_of nums n) (s.at % w) (s.at / w)
-    number l =
-        let e : length (rects_of nums n) ≡ n = length_run (rect_at nums) 0 n in
-        ap (λ (m : ℕ). number_in s m n) ke ∙ ap (number_in s (first_of (rects_of nums n) s.frame)) (sym e) ∙ v.frame l (rects_of nums n)
+    number : s.at < h * w → k ≡ number_of find (rects_of nums n) (s.at % w) (s.at / w)
+    number l = ke ∙ v.frame l (rects_of nums n)
 
-    stored : s.at < h * w → Numbered find (rects_of nums n) (canvas w h d) w (s.at + 1) (set found s.at (number_in s k n))
+    stored : s.at < h * w → Numbered find (rects_of nums n) (canvas w h d) w (s.at + 1) (set found s.at k)
     stored l j b e =
         by_flag (ltb j s.at)
         (λ y.
         let a : j < s.at = ltb-true j s.at y in
-        get_or-set_other found s.at j (number_in s k n) 0 (λ z. absurd (omega arith)) ∙ q.numbers j (before j a e) e)
+        get_or-set_other found s.at j k 0 (λ z. absurd (omega arith)) ∙ q.numbers j (before j a e) e)
         (λ m.
         let z : s.at ≡ j = omega (arith, ltb-false j s.at m) in
-        subst (λ (c : ℕ). get_or (set found s.at (number_in s k n)) c 0 ≡ number_of find (rects_of nums n) (c % w) (c / w)) z
-        (get_or-set_same found s.at (number_in s k n) 0 (omega (arith, q.long)) ∙ number l))
+        subst (λ (c : ℕ). get_or (set found s.at k) c 0 ≡ number_of find (rects_of nums n) (c % w) (c / w)) z
+        (get_or-set_same found s.at k 0 (omega (arith, q.long)) ∙ number l))
 
     pub numbering_next : length out ≡ length found → (i < next) × Numbering find nums n d w h start next to out
     numbering_next len =
@@ -60,7 +64,7 @@ module _ {find : Finder} {nums : List ℕ} {n : ℕ} {d : List ℕ} {w h : ℕ} 
         (λ y.
         let l : s.at < h * w = ltb-true s.at (h * w) y in
         let p = t.put l in
-        let e : out ≡ set found s.at (number_in s k n) = p.0 in
+        let e : out ≡ set found s.at k = p.0 in
         let f : next ≡ s.at + 1 = p.1 in (
           omega (arith, f, v.next.from),
           record { along = omega (arith, f); long = len ∙ q.long; numbers = rw (e, f) (stored l); few = few; above = above_on (omega (arith, f)) },

@@ -1,6 +1,5 @@
 -- What the functions that number the frames answer.
-use Rattle.std.specs.Prelude.{false, List, ◌≡◌, ℕ, ◌+◌, ◌/◌, ◌%◌, ◌≤◌, ◌<◌, length, get_or, set}
-use Rattle.lists.specs.Choose.{choose}
+use Rattle.std.specs.Prelude.{false, List, ◌≡◌, ℕ, ◌+◌, ◌/◌, ◌%◌, ◌≤◌, ◌<◌, length, get_or, set, Option, None, Some}
 use Rattle.model.specs.Geometry.{contains_of}
 use Rattle.model.specs.declared.Rect.{Rect}
 use Rattle.rects.specs.Rects.{rect_at}
@@ -21,18 +20,24 @@ Above d n row = (j : ℕ) → j < n → (rect_at d j).bottom ≤ row
 abbrev pub Without : List Rect → ℕ → Rect → Type 0
 Without rs n f = (j : ℕ) → j < n → contains_of (get_or rs j none) f ≡ false
 
--- the number of a frame that was sought, by that of the first rect that contains it
-abbrev pub number_in : Sought → ℕ → ℕ → ℕ
-number_in s k count = choose s.framed k count
+-- the same of a frame, if there is one
+abbrev pub WithoutAny : List Rect → ℕ → Option Rect → Type 0
+WithoutAny rs n None = Unit {0}
+WithoutAny rs n (Some f) = Without rs n f
 
--- the next corner from place i on, the row under it, and the frame that starts there; where none does, still a rect that ends below that row
+-- the number of a frame that was sought: that of the first rect that contains it, or how many rects there are
+abbrev pub number_in : List Rect → Option Rect → ℕ
+number_in rs None = length rs
+number_in rs (Some f) = first_of rs f
+
+-- the next corner from place i on, the row under it, and the frame that starts there, which ends below that row
 pub record Seen (find : Finder) (d : List ℕ) (w size i : ℕ) (s : Sought) : Type 0 where
   pub next : NextCorner (corner_in d) size i s.at
   pub under : s.under ≡ s.at / w + 1
-  pub ends : s.under < s.frame.bottom
-  pub frame : s.at < size → (rs : List Rect) → number_in s (first_of rs s.frame) (length rs) ≡ number_of find rs (s.at % w) (s.at / w)
+  pub ends : (f : Rect) → s.frame ≡ Some f → s.under < f.bottom
+  pub frame : s.at < size → (rs : List Rect) → number_in rs s.frame ≡ number_of find rs (s.at % w) (s.at / w)
 
 -- the number of a frame is stored where it starts, and k is the place behind it; past the last place there is none
-pub record Stored (s : Sought) (n size : ℕ) (d out : List ℕ) (k : ℕ) : Type 0 where
-  pub put : s.at < size → (out ≡ set d s.at n) × (k ≡ s.at + 1)
-  pub past : size ≤ s.at → (out ≡ d) × (k ≡ size)
+pub record Stored (at n size : ℕ) (d out : List ℕ) (k : ℕ) : Type 0 where
+  pub put : at < size → (out ≡ set d at n) × (k ≡ at + 1)
+  pub past : size ≤ at → (out ≡ d) × (k ≡ size)

@@ -9,22 +9,19 @@ ghost use Rattle.regions.specs.Slices.{Layer};
 ghost use Rattle.walks.specs.Frame.{frame_of};
 ghost use Rattle.walks.specs.Kinds.{grid};
 ghost use Rattle.lookup.specs.Lookup.{first_of, Numbered};
-ghost use Rattle.lookup.specs.Numbers.{Above, number_in, Seen, Stored, Without};
+ghost use Rattle.lookup.specs.Numbers.{Above, number_in, Seen, Stored, Without, WithoutAny};
 
 use model::Rect;
 use model::limits::REGIONS;
-use walks::Framed;
 
 // The first `count` rects, in row order.
 fn fill(rects: &mut [Rect], nums: &[u32], count: usize)
     requires { (count ≤ length rects.old) × (count * 4 ≤ length nums.now) }
     ensures { rects.new ≡ rects_of nums.now count ++ drop count rects.old }
 {
-    let mut i: usize = 0;
-    while i < count {
+    for i in 0..count {
         let r = rects::rect_at(nums, i);
         rects[i] = r;
-        i += 1;
     }
 }
 
@@ -33,15 +30,13 @@ fn live(nums: &[u32], count: usize, from: usize, row: usize) -> usize
     requires { (from ≤ count) × (count * 4 ≤ length nums.now) × Above nums.now from row }
     ensures { (from ≤ result) × (result ≤ count) × Above nums.now result row }
 {
-    let mut at = from;
-    while at < count {
+    for at in from..count {
         let r = rects::rect_at(nums, at);
         if row < r.bottom {
             return at;
         }
-        at += 1;
     }
-    at
+    count
 }
 
 // The number of the first of `count` rects that contains a frame, or `count`. None before `from` does.
@@ -49,27 +44,24 @@ fn first_containing(rects: &[Rect], from: usize, count: usize, frame: Rect) -> u
     requires { (from ≤ count) × (count ≤ length rects.now) × Without rects.now from frame }
     ensures { result ≡ first_of (take count rects.now) frame }
 {
-    let mut i = from;
-    while i < count {
+    for i in from..count {
         let r = rects[i];
         if r.contains(frame) {
             return i;
         }
-        i += 1;
     }
     count
 }
 
-// A corner of GRID, the row under it, and the frame that starts there.
+// A corner of GRID, the row under it, and the frame that starts there, if one does.
 #[derive(Clone, Copy)]
 struct Sought {
     at: usize,
     under: usize,
-    framed: bool,
-    frame: Rect,
+    frame: Option<Rect>,
 }
 
-// The first corner from place i on, with its frame. Where there is none, some rect that ends below the row under the corner, as a frame does.
+// The first corner from place i on, with its frame.
 fn seek(layer: &[u32], w: usize, h: usize, i: usize) -> Sought
     requires { Layer w h (length layer.now) × (i < h * w) }
     ensures { Seen (frame_of grid (canvas w h layer.now) w h) layer.now w (h * w) i result }
@@ -78,53 +70,37 @@ fn seek(layer: &[u32], w: usize, h: usize, i: usize) -> Sought
     let at = regions::next_corner(layer, size, i);
     let row = at / w;
     let under = row + 1;
-    let nowhere = Rect {
-        left: 0,
-        top: row,
-        right: 0,
-        bottom: under + 1,
-    };
     if size <= at {
         return Sought {
             at,
             under,
-            framed: false,
-            frame: nowhere,
+            frame: None,
         };
     }
-    match frames::recognize_rectangle(layer, w, h, at % w, row) {
-        Framed::Closed(f) => Sought {
-            at,
-            under,
-            framed: true,
-            frame: f,
-        },
-        Framed::NotFramed(_) => Sought {
-            at,
-            under,
-            framed: false,
-            frame: nowhere,
-        },
-    }
+    let frame = frames::recognize_rectangle(layer, w, h, at % w, row).ok();
+    Sought { at, under, frame }
 }
 
-// The number of a frame: that of its region, or `count`.
-fn number_in(s: Sought, k: usize, count: usize) -> usize
-    ensures { result ≡ number_in s k count }
+// The number of a frame: that of the first of `count` rects that contains it. Where there is no frame or none contains it, `count`.
+fn number_in(rects: &[Rect], from: usize, count: usize, frame: Option<Rect>) -> usize
+    requires { (from ≤ count) × (count ≤ length rects.now) × WithoutAny rects.now from frame }
+    ensures { result ≡ number_in (take count rects.now) frame }
 {
-    if s.framed { k } else { count }
+    match frame {
+        Some(f) => first_containing(rects, from, count, f),
+        None => count,
+    }
 }
 
 // The number of a frame is stored where it starts: the next place, or `size`.
-fn put_number(found: &mut [u32], s: Sought, k: usize, count: usize, size: usize) -> usize
-    requires { (size ≤ length found.old) × (k < 2 ^ 32) × (count < 2 ^ 32) }
-    ensures { Stored s (number_in s k count) size found.old found.new result }
+fn put_number(found: &mut [u32], at: usize, k: usize, size: usize) -> usize
+    requires { (size ≤ length found.old) × (k < 2 ^ 32) }
+    ensures { Stored at k size found.old found.new result }
 {
-    let at = s.at;
     if size <= at {
         return size;
     }
-    found[at] = number_in(s, k, count) as u32;
+    found[at] = k as u32;
     at + 1
 }
 
@@ -150,10 +126,11 @@ pub fn number_frames(
     let size = h * w;
     let mut i: usize = 0;
     let mut from: usize = 0;
+    // No `for`: each turn goes on behind the next corner.
     while i < size {
         let s = seek(layer, w, h, i);
         from = live(nums, count, from, s.under);
-        let k = first_containing(&rects, from, count, s.frame);
-        i = put_number(found, s, k, count, size);
+        let k = number_in(&rects, from, count, s.frame);
+        i = put_number(found, s.at, k, size);
     }
 }

@@ -1,17 +1,14 @@
 -- Laws of cells: the number of a cell gives the cell, and a cell turned twice is what it was.
+use Rattle.std.specs.Prelude.{Some}
 use mathlib.Core.Path.{◌≡◌, refl}
-use mathlib.Core.Option.{some}
-use Prim.Native.Nat.{ℕ, zero, suc, ◌*◌, ◌/◌, ◌%◌, ◌^◌, ◌<◌}
+use Prim.Native.Nat.{ℕ, zero, suc, ◌*◌, ◌/◌, ◌%◌}
 use native.Mathlib.Omega.{arith}
 use Rattle.model.specs.Cells.{cell_of_kind, region_of, cell_number, cell_of, Small, turned_cell}
 use Rattle.model.specs.declared.Cell.{Cell}
 use Rattle.model.specs.declared.Cell.TheVariants.{Region, VerticalOutputDoubleLine, VerticalAnnotationDoubleLine, HorizontalOutputDoubleLine, HorizontalAnnotationsDoubleLine, MainDoubleCrossing, HorizontalDoubleCrossing, VerticalDoubleCrossing}
 
-pub region-small : (c : Cell) (r : ℕ) → Small c → c ≡ Region r → 8 * r < 2 ^ 32
-region-small c r h e = rw e at h
-
 -- a cell that has a region's number is that region
-pub region-is : (c : Cell) (r : ℕ) → region_of c ≡ some r → c ≡ Region r
+pub region-is : (c : Cell) (r : ℕ) → region_of c ≡ Some r → c ≡ Region r
 region-is (Region q) r e = cc
 region-is VerticalOutputDoubleLine r e = let z : ◌≡◌ {A = ℕ} 0 1 = cc in absurd (omega arith)
 region-is VerticalAnnotationDoubleLine r e = let z : ◌≡◌ {A = ℕ} 0 1 = cc in absurd (omega arith)

@@ -1,9 +1,6 @@
 -- Cells of a plane: the kinds of `Cell` in the Rust, numbered 0 to 7 in its order, and the one number in which a slice holds a cell.
-use Rattle.std.specs.Prelude.{Bool, ℕ, zero, suc, ◌*◌, ◌/◌, ◌%◌, ◌^◌, ◌<◌, eqb}
-use Rattle.std.proofs.Math.Option.{Option, none, some}
+use Rattle.std.specs.Prelude.{Bool, ℕ, zero, suc, ◌*◌, ◌/◌, ◌%◌, ◌^◌, ◌<◌, eqb, Option, None, Some}
 use Rattle.model.specs.declared.Cell.{Cell}
-use Rattle.model.specs.declared.CellRegion.{CellRegion}
-use Rattle.model.specs.declared.CellRegion.TheVariants.{Number, NoRegion}
 use Rattle.model.specs.declared.Cell.TheVariants.{Region, VerticalOutputDoubleLine, VerticalAnnotationDoubleLine, HorizontalOutputDoubleLine, HorizontalAnnotationsDoubleLine, MainDoubleCrossing, HorizontalDoubleCrossing, VerticalDoubleCrossing}
 
 -- the cell of a kind; a region has its number, any other kind ignores it
@@ -30,19 +27,14 @@ kind_of VerticalDoubleCrossing = 7
 
 -- the number of a cell's region, if it has one
 abbrev pub region_of : Cell → Option ℕ
-region_of (Region r) = some r
-region_of VerticalOutputDoubleLine = none
-region_of VerticalAnnotationDoubleLine = none
-region_of HorizontalOutputDoubleLine = none
-region_of HorizontalAnnotationsDoubleLine = none
-region_of MainDoubleCrossing = none
-region_of HorizontalDoubleCrossing = none
-region_of VerticalDoubleCrossing = none
-
--- an answer's region
-abbrev pub region_found : CellRegion → Option ℕ
-region_found (Number r) = some r
-region_found NoRegion = none
+region_of (Region r) = Some r
+region_of VerticalOutputDoubleLine = None
+region_of VerticalAnnotationDoubleLine = None
+region_of HorizontalOutputDoubleLine = None
+region_of HorizontalAnnotationsDoubleLine = None
+region_of MainDoubleCrossing = None
+region_of HorizontalDoubleCrossing = None
+region_of VerticalDoubleCrossing = None
 
 -- two cells are of one kind
 abbrev pub same_kind : Cell → Cell → Bool

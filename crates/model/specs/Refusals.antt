@@ -1,13 +1,12 @@
 -- Refused sheets: the table of document 01. Each case of `Refusal` has its number N and its values A, B; unlisted values are 0.
-use Rattle.std.specs.Prelude.{ℕ}
-use Rattle.lists.specs.Answer.{Answer}
+use Rattle.std.specs.Prelude.{ℕ, Result}
 use Rattle.model.specs.declared.Refusal.{Refusal}
 use Rattle.model.specs.declared.Refusal.TheVariants.{InvalidUtf8, CanvasTooLarge, CharactersNotFound, CharacterNotAllowed, RectangleNotClosed, RegionNotFound, OverLimit, PlaneEmpty, NoMainCrossing, PlaneMalformed, InvalidRuleNumber, ExpectedLeftBelow, ExpectedTopLeft, ExpectedRightAfter, ExpectedBottomLeft, ExpectedNoRuleNumbers, CrossTab, CellOutOfRange, CellNotRegion, ClauseRows, InvalidInputExpressions, InvalidOutputExpressions, NoOutputClause, TooManyOutputRows, InvalidSize, LentPlaneMalformed, OutputSliceShort, WorkSliceShort}
 use Rattle.model.specs.declared.Numbers.{Numbers}
 
 -- what may be refused
 abbrev pub Reading : Type 0 → Type 0
-Reading A = Answer Refusal A
+Reading A = Result A Refusal
 
 abbrev refuse : ℕ → ℕ → ℕ → Numbers
 refuse n a b = record { n = n; a = a; b = b }

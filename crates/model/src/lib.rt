@@ -3,14 +3,14 @@
 
 ghost use Rattle.std.specs.Prelude.{◌≡◌, ◌+◌, ◌-◌, ◌<◌, ◌^◌};
 ghost use Rattle.model.specs.Geometry.{contains_of};
-ghost use Rattle.model.specs.Policies.{policy_number, orientation_number};
-ghost use Rattle.model.specs.Cells.{kind_of, region_of, region_found, same_kind, cell_number, cell_of, turned_cell, Small};
+ghost use Rattle.model.specs.Policies.{policy_number};
+ghost use Rattle.model.specs.Cells.{kind_of, region_of, same_kind, cell_number, turned_cell, Small};
 
 pub mod box_drawing;
 pub mod limits;
 
 // A place on a canvas: column x of row y.
-#[derive(Clone, Copy)]
+#[derive(Clone, Copy, Debug, PartialEq, Eq)]
 pub struct Point {
     pub x: usize,
     pub y: usize,
@@ -31,7 +31,7 @@ impl Point {
 }
 
 // A rectangle; right and bottom are exclusive.
-#[derive(Clone, Copy)]
+#[derive(Clone, Copy, Debug, PartialEq, Eq)]
 pub struct Rect {
     pub left: usize,
     pub top: usize,
@@ -89,7 +89,7 @@ impl Rect {
 }
 
 // What becomes of several matching rules' outputs under the policy COLLECT.
-#[derive(Clone, Copy)]
+#[derive(Clone, Copy, Debug, PartialEq, Eq)]
 pub enum BuiltinAggregator {
     List,
     Count,
@@ -98,7 +98,7 @@ pub enum BuiltinAggregator {
     Max,
 }
 
-#[derive(Clone, Copy)]
+#[derive(Clone, Copy, Debug, PartialEq, Eq)]
 pub enum HitPolicy {
     Unique,
     Any,
@@ -110,14 +110,14 @@ pub enum HitPolicy {
 }
 
 // Whether rules are rows or columns. (Crosstab sheets are refused.)
-#[derive(Clone, Copy)]
+#[derive(Clone, Copy, Debug, PartialEq, Eq)]
 pub enum Orientation {
     RulesAsRows,
     RulesAsColumns,
 }
 
 // Where the hit policy stands in a plane.
-#[derive(Clone, Copy)]
+#[derive(Clone, Copy, Debug, PartialEq, Eq)]
 pub enum HitPolicyPlacement {
     TopLeft(HitPolicy),
     BottomLeft(HitPolicy),
@@ -125,7 +125,7 @@ pub enum HitPolicyPlacement {
 }
 
 // Where the rule numbers stand in a plane, and how many there are.
-#[derive(Clone, Copy)]
+#[derive(Clone, Copy, Debug, PartialEq, Eq)]
 pub enum RuleNumbersPlacement {
     LeftBelow(u64),
     RightAfter(u64),
@@ -133,7 +133,7 @@ pub enum RuleNumbersPlacement {
 }
 
 // A cell of a plane: a region by its number, a double line, or a crossing of double lines.
-#[derive(Clone, Copy)]
+#[derive(Clone, Copy, Debug, PartialEq, Eq)]
 pub enum Cell {
     Region(u32),
     VerticalOutputDoubleLine,
@@ -146,7 +146,7 @@ pub enum Cell {
 }
 
 // Why a sheet, a lent plane or a text is refused.
-#[derive(Clone, Copy)]
+#[derive(Clone, Copy, Debug, PartialEq, Eq)]
 pub enum Refusal {
     InvalidUtf8(usize),
     CanvasTooLarge(usize, usize),
@@ -179,7 +179,7 @@ pub enum Refusal {
 }
 
 // A refusal as document 01 numbers it: N, A, B.
-#[derive(Clone, Copy)]
+#[derive(Clone, Copy, Debug, PartialEq, Eq)]
 pub struct Numbers {
     pub n: u64,
     pub a: u64,
@@ -187,17 +187,22 @@ pub struct Numbers {
 }
 
 // A policy's number in a record.
-pub fn policy_number(h: HitPolicy) -> u32
-    ensures { result ≡ policy_number h }
-{
-    match h {
-        HitPolicy::Unique => 0,
-        HitPolicy::Any => 1,
-        HitPolicy::Priority => 2,
-        HitPolicy::First => 3,
-        HitPolicy::RuleOrder => 4,
-        HitPolicy::OutputOrder => 5,
-        HitPolicy::Collect(a) => aggregator_number(a),
+impl From<HitPolicy> for u32 {
+    ghost use Rattle.std.specs.Prelude.{◌≡◌};
+    ghost use Rattle.model.specs.Policies.{policy_number};
+
+    ghost from_gives = { λ h n. n ≡ policy_number h };
+
+    fn from(policy: HitPolicy) -> u32 {
+        match policy {
+            HitPolicy::Unique => 0,
+            HitPolicy::Any => 1,
+            HitPolicy::Priority => 2,
+            HitPolicy::First => 3,
+            HitPolicy::RuleOrder => 4,
+            HitPolicy::OutputOrder => 5,
+            HitPolicy::Collect(a) => aggregator_number(a),
+        }
     }
 }
 
@@ -214,107 +219,111 @@ fn aggregator_number(a: BuiltinAggregator) -> u32
 }
 
 // An orientation's number in a record.
-pub fn orientation_number(o: Orientation) -> u32
-    ensures { result ≡ orientation_number o }
-{
-    match o {
-        Orientation::RulesAsRows => 0,
-        Orientation::RulesAsColumns => 1,
+impl From<Orientation> for u32 {
+    ghost use Rattle.std.specs.Prelude.{◌≡◌};
+    ghost use Rattle.model.specs.Policies.{orientation_number};
+
+    ghost from_gives = { λ o n. n ≡ orientation_number o };
+
+    fn from(orientation: Orientation) -> u32 {
+        match orientation {
+            Orientation::RulesAsRows => 0,
+            Orientation::RulesAsColumns => 1,
+        }
     }
 }
 
-// The number of a cell's kind.
-fn kind_of(c: Cell) -> u32
-    ensures { result ≡ kind_of c }
-{
-    match c {
-        Cell::Region(_) => 0,
-        Cell::VerticalOutputDoubleLine => 1,
-        Cell::VerticalAnnotationDoubleLine => 2,
-        Cell::HorizontalOutputDoubleLine => 3,
-        Cell::HorizontalAnnotationsDoubleLine => 4,
-        Cell::MainDoubleCrossing => 5,
-        Cell::HorizontalDoubleCrossing => 6,
-        Cell::VerticalDoubleCrossing => 7,
+impl Cell {
+    // The number of a cell's kind.
+    fn kind(self) -> u32
+        ensures { result ≡ kind_of self }
+    {
+        match self {
+            Cell::Region(_) => 0,
+            Cell::VerticalOutputDoubleLine => 1,
+            Cell::VerticalAnnotationDoubleLine => 2,
+            Cell::HorizontalOutputDoubleLine => 3,
+            Cell::HorizontalAnnotationsDoubleLine => 4,
+            Cell::MainDoubleCrossing => 5,
+            Cell::HorizontalDoubleCrossing => 6,
+            Cell::VerticalDoubleCrossing => 7,
+        }
     }
-}
 
-// The number of a cell's region, if it has one.
-#[derive(Clone, Copy)]
-pub enum CellRegion {
-    Number(usize),
-    NoRegion,
-}
-
-pub fn region_of(c: Cell) -> CellRegion
-    ensures { region_found result ≡ region_of c }
-{
-    match c {
-        Cell::Region(r) => CellRegion::Number(r as usize),
-        Cell::VerticalOutputDoubleLine => CellRegion::NoRegion,
-        Cell::VerticalAnnotationDoubleLine => CellRegion::NoRegion,
-        Cell::HorizontalOutputDoubleLine => CellRegion::NoRegion,
-        Cell::HorizontalAnnotationsDoubleLine => CellRegion::NoRegion,
-        Cell::MainDoubleCrossing => CellRegion::NoRegion,
-        Cell::HorizontalDoubleCrossing => CellRegion::NoRegion,
-        Cell::VerticalDoubleCrossing => CellRegion::NoRegion,
+    pub fn region(self) -> Option<usize>
+        ensures { result ≡ region_of self }
+    {
+        match self {
+            Cell::Region(r) => Some(r as usize),
+            Cell::VerticalOutputDoubleLine => None,
+            Cell::VerticalAnnotationDoubleLine => None,
+            Cell::HorizontalOutputDoubleLine => None,
+            Cell::HorizontalAnnotationsDoubleLine => None,
+            Cell::MainDoubleCrossing => None,
+            Cell::HorizontalDoubleCrossing => None,
+            Cell::VerticalDoubleCrossing => None,
+        }
     }
-}
 
-// Whether two cells are of one kind.
-pub fn same_kind(a: Cell, b: Cell) -> bool
-    ensures { result ≡ same_kind a b }
-{
-    kind_of(a) == kind_of(b)
-}
+    // Whether two cells are of one kind.
+    pub fn is_same_kind(self, other: Cell) -> bool
+        ensures { result ≡ same_kind self other }
+    {
+        self.kind() == other.kind()
+    }
 
-// The number that a slice holds for a cell.
-pub fn cell_number(c: Cell) -> u32
-    requires { Small c }
-    ensures { result ≡ cell_number c }
-{
-    match c {
-        Cell::Region(r) => 8 * r,
-        Cell::VerticalOutputDoubleLine => 1,
-        Cell::VerticalAnnotationDoubleLine => 2,
-        Cell::HorizontalOutputDoubleLine => 3,
-        Cell::HorizontalAnnotationsDoubleLine => 4,
-        Cell::MainDoubleCrossing => 5,
-        Cell::HorizontalDoubleCrossing => 6,
-        Cell::VerticalDoubleCrossing => 7,
+    // The number that a slice holds for a cell.
+    pub fn number(self) -> u32
+        requires { Small self }
+        ensures { result ≡ cell_number self }
+    {
+        match self {
+            Cell::Region(r) => 8 * r,
+            Cell::VerticalOutputDoubleLine => 1,
+            Cell::VerticalAnnotationDoubleLine => 2,
+            Cell::HorizontalOutputDoubleLine => 3,
+            Cell::HorizontalAnnotationsDoubleLine => 4,
+            Cell::MainDoubleCrossing => 5,
+            Cell::HorizontalDoubleCrossing => 6,
+            Cell::VerticalDoubleCrossing => 7,
+        }
+    }
+
+    // The cell in a turned plane.
+    pub fn turned(self) -> Cell
+        ensures { result ≡ turned_cell self }
+    {
+        match self {
+            Cell::Region(r) => Cell::Region(r),
+            Cell::VerticalOutputDoubleLine => Cell::HorizontalOutputDoubleLine,
+            Cell::VerticalAnnotationDoubleLine => Cell::HorizontalAnnotationsDoubleLine,
+            Cell::HorizontalOutputDoubleLine => Cell::VerticalOutputDoubleLine,
+            Cell::HorizontalAnnotationsDoubleLine => Cell::VerticalAnnotationDoubleLine,
+            Cell::MainDoubleCrossing => Cell::MainDoubleCrossing,
+            Cell::HorizontalDoubleCrossing => Cell::VerticalDoubleCrossing,
+            Cell::VerticalDoubleCrossing => Cell::HorizontalDoubleCrossing,
+        }
     }
 }
 
 // The cell for which a slice holds a number.
-pub fn cell_of(n: u32) -> Cell
-    ensures cell { result ≡ cell_of n }
-    ensures small { Small result }
-{
-    let kind = n % 8;
-    match kind {
-        0 => Cell::Region(n / 8),
-        1 => Cell::VerticalOutputDoubleLine,
-        2 => Cell::VerticalAnnotationDoubleLine,
-        3 => Cell::HorizontalOutputDoubleLine,
-        4 => Cell::HorizontalAnnotationsDoubleLine,
-        5 => Cell::MainDoubleCrossing,
-        6 => Cell::HorizontalDoubleCrossing,
-        _ => Cell::VerticalDoubleCrossing,
-    }
-}
+impl From<u32> for Cell {
+    ghost use Rattle.std.specs.Prelude.{◌≡◌};
+    ghost use Rattle.model.specs.Cells.{cell_of, Small};
 
-// The cell in a turned plane.
-pub fn turned_cell(c: Cell) -> Cell
-    ensures { result ≡ turned_cell c }
-{
-    match c {
-        Cell::Region(r) => Cell::Region(r),
-        Cell::VerticalOutputDoubleLine => Cell::HorizontalOutputDoubleLine,
-        Cell::VerticalAnnotationDoubleLine => Cell::HorizontalAnnotationsDoubleLine,
-        Cell::HorizontalOutputDoubleLine => Cell::VerticalOutputDoubleLine,
-        Cell::HorizontalAnnotationsDoubleLine => Cell::VerticalAnnotationDoubleLine,
-        Cell::MainDoubleCrossing => Cell::MainDoubleCrossing,
-        Cell::HorizontalDoubleCrossing => Cell::VerticalDoubleCrossing,
-        Cell::VerticalDoubleCrossing => Cell::HorizontalDoubleCrossing,
+    ghost from_gives = { λ n c. (c ≡ cell_of n) × Small c };
+
+    fn from(number: u32) -> Cell {
+        let kind = number % 8;
+        match kind {
+            0 => Cell::Region(number / 8),
+            1 => Cell::VerticalOutputDoubleLine,
+            2 => Cell::VerticalAnnotationDoubleLine,
+            3 => Cell::HorizontalOutputDoubleLine,
+            4 => Cell::HorizontalAnnotationsDoubleLine,
+            5 => Cell::MainDoubleCrossing,
+            6 => Cell::HorizontalDoubleCrossing,
+            _ => Cell::VerticalDoubleCrossing,
+        }
     }
 }

@@ -1,12 +1,9 @@
 -- The numbers that tell an outcome: document 01, "If an answer is an enum, a definition lists this paper's number and values for each of its cases".
-use Rattle.std.specs.Prelude.{List, ◌≡◌, ℕ, length}
-use Rattle.model.specs.Refusals.{numbers}
+use Rattle.std.specs.Prelude.{List, ◌≡◌, ℕ, length, Option, None, Some, Ok, Err}
+use Rattle.model.specs.Refusals.{numbers, Reading}
 use Rattle.model.specs.declared.Refusal.{Refusal}
 use Rattle.utils.specs.Split.{split_of, scratch_of, answered, Places}
-use Rattle.utils.specs.declared.Split.{Split}
-use Rattle.utils.specs.declared.Split.TheVariants.{Own, Rewritten, NotSplit}
-use Rattle.records.specs.declared.Outcome.{Outcome}
-use Rattle.records.specs.declared.Outcome.TheVariants.{Record, Refused}
+use Rattle.utils.specs.declared.Rewritten.{Rewritten}
 use Rattle.numbers.specs.declared.Answer.{Answer}
 use Rattle.numbers.specs.declared.SplitAnswer.{SplitAnswer}
 
@@ -15,19 +12,19 @@ abbrev pub refusal_answer : Refusal → Answer
 refusal_answer r = record { n = (numbers r).n; a = (numbers r).a; b = (numbers r).b }
 
 -- a record is number 0, with its total bytes
-abbrev pub answer_of : Outcome → Answer
-answer_of (Record total) = record { n = 0; a = total; b = 0 }
-answer_of (Refused r) = refusal_answer r
+abbrev pub answer_of : Reading ℕ → Answer
+answer_of (Ok total) = record { n = 0; a = total; b = 0 }
+answer_of (Err r) = refusal_answer r
 
 -- the value split: the text itself, the places of rewritten values, or a refusal
-abbrev pub split_answer : Split → SplitAnswer
-split_answer Own = record { n = 0; a = 0; b = 0; rewritten = 0; length = 0; from = 0; to = 0 }
-split_answer (Rewritten length from to) = record { n = 0; a = 0; b = 0; rewritten = 1; length = length; from = from; to = to }
-split_answer (NotSplit r) = record { n = (numbers r).n; a = (numbers r).a; b = (numbers r).b; rewritten = 0; length = 0; from = 0; to = 0 }
+abbrev pub split_answer : Reading (Option Rewritten) → SplitAnswer
+split_answer (Ok None) = record { n = 0; a = 0; b = 0; rewritten = 0; length = 0; from = 0; to = 0 }
+split_answer (Ok (Some r)) = record { n = 0; a = 0; b = 0; rewritten = 1; length = r.bytes; from = r.from; to = r.to }
+split_answer (Err r) = record { n = (numbers r).n; a = (numbers r).a; b = (numbers r).b; rewritten = 0; length = 0; from = 0; to = 0 }
 
 -- what the split's numbers tell, with the scratch slice before and after
 pub record SplitTold (r : SplitAnswer) (text scratch after : List ℕ) : Type 0 where
-  pub split : Split
+  pub split : Reading (Option Rewritten)
   pub told : r ≡ split_answer split
   pub answer : answered split text after ≡ split_of text (length scratch)
   pub places : Places split text after

@@ -5,8 +5,7 @@ ghost use Rattle.std.specs.Prelude.{◌≡◌};
 ghost use Rattle.numbers.specs.Answers.{refusal_answer, answer_of, split_answer};
 
 use model::Refusal;
-use records::Outcome;
-use utils::Split;
+use utils::Rewritten;
 
 // n = 0 and a record of `a` bytes, or a refusal's N, A and B.
 #[repr(C)]
@@ -28,16 +27,16 @@ fn refusal_answer(r: Refusal) -> Answer
     }
 }
 
-pub fn outcome_answer(o: Outcome) -> Answer
+pub fn outcome_answer(o: Result<usize, Refusal>) -> Answer
     ensures { result ≡ answer_of o }
 {
     match o {
-        Outcome::Record(total) => Answer {
+        Ok(total) => Answer {
             n: 0,
             a: total as u64,
             b: 0,
         },
-        Outcome::Refused(r) => refusal_answer(r),
+        Err(r) => refusal_answer(r),
     }
 }
 
@@ -55,11 +54,11 @@ pub struct SplitAnswer {
     pub to: usize,
 }
 
-pub fn split_numbers(s: Split) -> SplitAnswer
+pub fn split_numbers(s: Result<Option<Rewritten>, Refusal>) -> SplitAnswer
     ensures { result ≡ split_answer s }
 {
     match s {
-        Split::Own => SplitAnswer {
+        Ok(None) => SplitAnswer {
             n: 0,
             a: 0,
             b: 0,
@@ -68,16 +67,16 @@ pub fn split_numbers(s: Split) -> SplitAnswer
             from: 0,
             to: 0,
         },
-        Split::Rewritten(length, from, to) => SplitAnswer {
+        Ok(Some(r)) => SplitAnswer {
             n: 0,
             a: 0,
             b: 0,
             rewritten: 1,
-            length,
-            from,
-            to,
+            length: r.bytes,
+            from: r.from,
+            to: r.to,
         },
-        Split::NotSplit(r) => {
+        Err(r) => {
             let x = refusals::refusal_numbers(r);
             SplitAnswer {
                 n: x.n,

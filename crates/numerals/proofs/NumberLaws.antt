@@ -1,8 +1,8 @@
 -- The steps of reading a rule number.
+use Rattle.std.specs.Prelude.{None, Some}
 use mathlib.Core.Path.{◌≡◌, refl, sym, ap, ◌∙◌}
 use mathlib.Core.Bool.{Bool, true, false, and-false}
 use mathlib.Core.List.{List, [], ◌∷◌}
-use mathlib.Core.Option.{none, some}
 use Prim.Native.Nat.{ℕ, ◌+◌, ◌-◌, ◌*◌, ◌^◌, ◌<◌, ◌≤◌}
 use native.Mathlib.Omega.{arith}
 use lib.Dec.{leb}
@@ -18,25 +18,25 @@ module _ (s : List ℕ) (a i : ℕ) (h : i < length s) where
   unfolding digits
   digit_step l u = rw (at_cons s i 0 h, le-leb 0x30 (get_or s i 0) l, le-leb (get_or s i 0) 0x39 u)
 
-  digit_low : get_or s i 0 < 0x30 → digits a (drop i s) ≡ none
+  digit_low : get_or s i 0 < 0x30 → digits a (drop i s) ≡ None
   unfolding digits
   digit_low l = rw (at_cons s i 0 h, lt-leb 0x30 (get_or s i 0) l)
 
-  digit_high : 0x39 < get_or s i 0 → digits a (drop i s) ≡ none
+  digit_high : 0x39 < get_or s i 0 → digits a (drop i s) ≡ None
   unfolding digits
   digit_high u = rw (at_cons s i 0 h, lt-leb (get_or s i 0) 0x39 u, and-false (leb 0x30 (get_or s i 0)))
 
 -- a value past 64 bits stays there
-digits_big : (a : ℕ) (s : List ℕ) → 2 ^ 64 ≤ a → fits64 (digits a s) ≡ none
+digits_big : (a : ℕ) (s : List ℕ) → 2 ^ 64 ≤ a → fits64 (digits a s) ≡ None
 unfolding digits
 digits_big a [] h = rw (le-ltb a (2 ^ 64) h)
 digits_big a (c ∷ s) h = go (is_digit c) (digits_big (a * 10 + (c - 0x30)) s (omega arith))
   where
-    go : (t : Bool) → fits64 (digits (a * 10 + (c - 0x30)) s) ≡ none → fits64 (choose t (digits (a * 10 + (c - 0x30)) s) none) ≡ none
+    go : (t : Bool) → fits64 (digits (a * 10 + (c - 0x30)) s) ≡ None → fits64 (choose t (digits (a * 10 + (c - 0x30)) s) None) ≡ None
     go true e = e
     go false e = refl
 
-digits_end : (s : List ℕ) (a i : ℕ) → length s ≤ i → a < 2 ^ 64 → fits64 (digits a (drop i s)) ≡ some a
+digits_end : (s : List ℕ) (a i : ℕ) → length s ≤ i → a < 2 ^ 64 → fits64 (digits a (drop i s)) ≡ Some a
 unfolding digits
 digits_end s a i h k = rw (drop_of_length-le s h, lt-ltb a (2 ^ 64) k)
 
@@ -51,28 +51,28 @@ digits-start s from h = record { within = omega arith; small = omega arith; rest
 
 module _ {s : List ℕ} {from i a : ℕ} (r : Digits s from i a) where
   module _ (h : i < length s) where
-    pub digits_low : get_or s i 0 < 0x30 → none ≡ unsigned (drop from s)
+    pub digits_low : get_or s i 0 < 0x30 → None ≡ unsigned (drop from s)
     digits_low l = sym (r.rest ∙ ap fits64 (digit_low s a i h l))
 
-    pub digits-high : 0x39 < get_or s i 0 → none ≡ unsigned (drop from s)
+    pub digits-high : 0x39 < get_or s i 0 → None ≡ unsigned (drop from s)
     digits-high u = sym (r.rest ∙ ap fits64 (digit_high s a i h u))
 
     module _ (l : 0x30 ≤ get_or s i 0) (u : get_or s i 0 ≤ 0x39) where
-      pub digits_over : 2 ^ 64 ≤ a * 10 + (get_or s i 0 - 0x30) → none ≡ unsigned (drop from s)
+      pub digits_over : 2 ^ 64 ≤ a * 10 + (get_or s i 0 - 0x30) → None ≡ unsigned (drop from s)
       digits_over b = sym (r.rest ∙ ap fits64 (digit_step s a i h l u) ∙ digits_big (a * 10 + (get_or s i 0 - 0x30)) (drop (i + 1) s) b)
 
       pub digits_more : (x : ℕ) → x ≡ get_or s i 0 → a * 10 + (x - 0x30) < 2 ^ 64 → Digits s from (i + 1) (a * 10 + (x - 0x30))
       digits_more x e b =
           record { within = omega arith; small = b; rest = r.rest ∙ ap fits64 (digit_step s a i h l u) ∙ rw e }
 
-  pub digits_done : length s ≤ i → some a ≡ unsigned (drop from s)
+  pub digits_done : length s ≤ i → Some a ≡ unsigned (drop from s)
   digits_done h = sym (r.rest ∙ digits_end s a i h r.small)
 
-pub no_digits : (s : List ℕ) (from : ℕ) → length s ≤ from → none ≡ unsigned (drop from s)
+pub no_digits : (s : List ℕ) (from : ℕ) → length s ≤ from → None ≡ unsigned (drop from s)
 no_digits s from h = rw (drop_of_length-le s h)
 
 -- the sign
-pub no_text : (s : List ℕ) → length s ≡ 0 → none ≡ number_of s
+pub no_text : (s : List ℕ) → length s ≡ 0 → None ≡ number_of s
 unfolding number_of
 no_text [] e = refl
 no_text (c ∷ s) e = absurd (omega arith)

@@ -1,4 +1,5 @@
 -- An outcome's lines are the lines of what is stated.
+use Rattle.std.specs.Prelude.{Ok, Err, ℕ}
 use mathlib.Core.List.{List, [], ◌∷◌, map}
 use mathlib.Core.Path.{◌≡◌, refl, ap, ◌∙◌}
 use Prim.Native.Nat.{ℕ, suc, ◌^◌, ◌≤◌, ◌<◌}
@@ -6,7 +7,6 @@ use native.Mathlib.Omega.{arith}
 use lib.Dec.{ltb}
 use lib.ListN.{length, drop}
 use borrow.Author.Tests.{le-ltb}
-use Rattle.lists.specs.Answer.{ok, refused}
 use Rattle.lists.specs.Put.{put}
 use Rattle.lists.proofs.PutLaws.{put_front}
 use Rattle.lists.proofs.Tests.{by_flag}
@@ -34,7 +34,6 @@ use Rattle.records.specs.Outcomes.{outcome_of, record_of}
 use Rattle.room.specs.Room.{room_from}
 use Rattle.room.proofs.RoomLaws.{room_exact}
 use Rattle.ends.specs.Ends.{End, end_by, end_of}
-use Rattle.records.specs.declared.Outcome.{Outcome}
 use Rattle.outcome_lines.specs.Outcomes.{outcome_lines, OutcomeSound}
 use Rattle.outcome_lines.specs.PolicyLines.{policy_lines}
 
@@ -44,8 +43,8 @@ orientation-fits RulesAsColumns = omega arith
 
 -- what is stated can be recorded, in few slots
 pub record Printable (m : Reading Policy) : Type 0 where
-  pub recordable : (p : Policy) → m ≡ ok p → Recordable p
-  pub few : (p : Policy) → m ≡ ok p → slots_in (table_of p) ≤ slot_limit
+  pub recordable : (p : Policy) → m ≡ Ok p → Recordable p
+  pub few : (p : Policy) → m ≡ Ok p → slots_in (table_of p) ≤ slot_limit
 
 pub drawn_printable : (s : List ℕ) → Printable (walked_policy s)
 drawn_printable s =
@@ -64,25 +63,25 @@ put-lines p d h =
     ∙ encode-lines (table_of p) (drop (length e) d) (texts-counted p h.complete) h.total (hit-fits p.hit) (orientation-fits p.orientation) h.rules
 
 -- an outcome and a record slice whose lines are those of what is stated, with n bytes for the record
-pub record Reported (m : Reading Policy) (n : ℕ) (r : Outcome) (o : List ℕ) : Type 0 where
+pub record Reported (m : Reading Policy) (n : ℕ) (r : Reading ℕ) (o : List ℕ) : Type 0 where
   pub sound : OutcomeSound r o
   pub lines : outcome_lines r o ≡ policy_lines n m
 
 outcome_reported : (m : Reading Policy) (d : List ℕ) → Printable m → Reported m (length d) (outcome_of (table_read m) (length d)) (record_of (table_read m) d)
 unfolding policy_lines
-outcome_reported (ok p) d h =
+outcome_reported (Ok p) d h =
     let q = h.recordable p refl in
     by_flag (ltb (length d) (total (table_of p))) (λ t. rw t (record { sound = tt; lines = rw t }))
     (λ t. rw t (record { sound = put-sound (table_of p) (texts-counted p q.complete) q.total (h.few p refl) d; lines = rw t (put-lines p d q) }))
-outcome_reported (refused r) d h = record { sound = tt; lines = refl }
+outcome_reported (Err r) d h = record { sound = tt; lines = refl }
 
 -- a call with work slices of exactly their lengths
-pub end_reported : (sizes : List ℕ) (m : Reading Policy) (works cleared : List (List ℕ)) (d o : List ℕ) (r : Outcome) (n : ℕ) → Printable m → map length works ≡ sizes → length d ≡ n
+pub end_reported : (sizes : List ℕ) (m : Reading Policy) (works cleared : List (List ℕ)) (d o : List ℕ) (r : Reading ℕ) (n : ℕ) → Printable m → map length works ≡ sizes → length d ≡ n
     → end_of sizes m works d ≡ record { outcome = r; works = cleared; out = o } → Reported m n r o
 unfolding end_of
 end_reported sizes m works cleared d o r n h w l e =
-    let z : room_from 0 (map length works) sizes ≡ ok tt = ap (λ (ks : List ℕ). room_from 0 ks sizes) w ∙ room_exact 0 sizes in
-    let q : end_by (ok tt) (table_read m) works d ≡ record { outcome = r; works = cleared; out = o } = rw z at e in
+    let z : room_from 0 (map length works) sizes ≡ Ok tt = ap (λ (ks : List ℕ). room_from 0 ks sizes) w ∙ room_exact 0 sizes in
+    let q : end_by (Ok tt) (table_read m) works d ≡ record { outcome = r; works = cleared; out = o } = rw z at e in
     let a : outcome_of (table_read m) (length d) ≡ r = ap (λ (x : End). x.outcome) q in
     let b : record_of (table_read m) d ≡ o = ap (λ (x : End). x.out) q in
     rw (← a, ← b, ← l) (outcome_reported m d h)

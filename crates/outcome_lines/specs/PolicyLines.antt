@@ -1,6 +1,5 @@
 -- What is printed for a sheet or a lent plane: document 01, "Table record".
-use Rattle.std.specs.Prelude.{List, ℕ, ltb}
-use Rattle.lists.specs.Answer.{ok, refused}
+use Rattle.std.specs.Prelude.{List, ℕ, ltb, Ok, Err}
 use Rattle.lists.specs.Choose.{choose}
 use Rattle.model.specs.Refusals.{Reading, numbers}
 use Rattle.model.specs.declared.Refusal.TheVariants.{OutputSliceShort}
@@ -16,8 +15,8 @@ record_bytes = 61440
 
 -- the lines that are printed for what a sheet or a plane states, with a record slice of n bytes: the record, or the refusal, 27 last
 unfoldable pub policy_lines : ℕ → Reading Policy → List ℕ
-policy_lines n (ok p) = choose (ltb n (total (table_of p))) (refused_line (numbers (OutputSliceShort (total (table_of p))))) (table_lines (table_of p))
-policy_lines n (refused r) = refused_line (numbers r)
+policy_lines n (Ok p) = choose (ltb n (total (table_of p))) (refused_line (numbers (OutputSliceShort (total (table_of p))))) (table_lines (table_of p))
+policy_lines n (Err r) = refused_line (numbers r)
 
 -- room for them: a record's lines take more than a refusal's
 abbrev pub report_bytes : ℕ

@@ -1,4 +1,5 @@
 -- Above the main crossing of an outline the body's top side has a ╥, and the annotation crossing below it stands below it.
+use Rattle.std.specs.Prelude.{Ok, Err, Some}
 use mathlib.Core.Path.{◌≡◌, refl, subst}
 use mathlib.Core.Bool.{Bool, true, false, ◌||◌}
 use mathlib.Core.List.{List, [], ◌∷◌}
@@ -6,7 +7,6 @@ use Prim.Native.Nat.{ℕ, ◌+◌, ◌-◌, ◌/◌, ◌%◌, ◌<◌}
 use native.Mathlib.Omega.{arith}
 use lib.Dec.{eqb}
 use borrow.Author.Tests.{eqb-true}
-use Rattle.lists.specs.Answer.{ok, refused}
 use Rattle.lists.specs.OneOf.{one_of}
 use Rattle.lists.specs.Picture.{Picture}
 use Rattle.lists.proofs.AnswerLaws.{then_ok}
@@ -22,7 +22,6 @@ use Rattle.frames.specs.Body.{body_of}
 use Rattle.along.specs.Characters.{searched_of, allowed_of, along_of}
 use Rattle.along.specs.declared.Lines.TheVariants.{Body}
 use Rattle.outline.specs.Outline.{crossing_by, table_of, outline_by}
-use Rattle.outline.specs.declared.Crossing.TheVariants.{At}
 use Rattle.outline.specs.declared.Outline.{Outline}
 use Rattle.outline.proofs.InsideLaws.{outline_table}
 
@@ -36,7 +35,7 @@ only c k e = go (eqb c k) refl e
     go false f e = true_false e refl
 
 -- the walk up ends in ╥
-body-edge : (p : Picture) (w h x y : ℕ) (r : Rect) → body_of p w h x y ≡ ok r → p x r.top ≡ ╥
+body-edge : (p : Picture) (w h x y : ℕ) (r : Rect) → body_of p w h x y ≡ Ok r → p x r.top ≡ ╥
 unfolding body_of
 body-edge p w h x y r e =
     let u = then_ok (along_of Body Up p w h x y) _ r e in
@@ -48,20 +47,20 @@ body-edge p w h x y r e =
     subst (λ (a : Rect). p x a.top ≡ ╥) s (only (p x (y - u.0)) ╥ f)
 
 -- a crossing that is found lies behind where the walk began
-crossing_behind : (line : ℕ → ℕ) (s a : List ℕ) (n from : ℕ) (m : Reading ℕ) → walk_of line s a n ≡ m → (i : ℕ) → crossing_by from m ≡ At i → from < i
-crossing_behind line s a n from (ok k) e i f = let z : from + k ≡ i = cc in omega (arith, found_bound line s a n k e)
-crossing_behind line s a n from (refused r) e i f = let z : ◌≡◌ {A = ℕ} 0 1 = cc in absurd (omega arith)
+crossing_behind : (line : ℕ → ℕ) (s a : List ℕ) (n from : ℕ) (m : Reading ℕ) → walk_of line s a n ≡ m → (i : ℕ) → crossing_by from m ≡ Some i → from < i
+crossing_behind line s a n from (Ok k) e i f = let z : from + k ≡ i = cc in omega (arith, found_bound line s a n k e)
+crossing_behind line s a n from (Err r) e i f = let z : ◌≡◌ {A = ℕ} 0 1 = cc in absurd (omega arith)
 
 pub record Edged (p : Picture) (o : Outline) : Type 0 where
   pub edge : p o.x o.body.top ≡ ╥
-  pub below : (i : ℕ) → o.below ≡ At i → o.y < i
+  pub below : (i : ℕ) → o.below ≡ Some i → o.y < i
 
 -- of an answer
 abbrev EdgedAnswer : Picture → Reading Outline → Type 0
-EdgedAnswer p (ok o) = Edged p o
-EdgedAnswer p (refused r) = Unit {0}
+EdgedAnswer p (Ok o) = Edged p o
+EdgedAnswer p (Err r) = Unit {0}
 
-table_edged : (p : Picture) (w h : ℕ) (n : Bool) (k : ℕ) (o : Outline) → table_of p w h n k ≡ ok o → Edged p o
+table_edged : (p : Picture) (w h : ℕ) (n : Bool) (k : ℕ) (o : Outline) → table_of p w h n k ≡ Ok o → Edged p o
 unfolding table_of
 table_edged p w h n k o e =
     let x = k % w in
@@ -70,5 +69,5 @@ table_edged p w h n k o e =
     let c = crossing_behind (ray Down p x y) (╬ ∷ []) (║ ∷ ╫ ∷ []) (h - 1 - y) y (go_of Down p w h x y (╬ ∷ []) (║ ∷ ╫ ∷ [])) refl in
     subst (EdgedAnswer p) b.2 (record { edge = body-edge p w h x y b.0 b.1; below = c })
 
-pub outline_edged : (find : FrameFinder) (p : Picture) (w h : ℕ) (o : Outline) → outline_by find p w h ≡ ok o → Edged p o
+pub outline_edged : (find : FrameFinder) (p : Picture) (w h : ℕ) (o : Outline) → outline_by find p w h ≡ Ok o → Edged p o
 outline_edged find p w h o e = let t = outline_table find p w h o e in table_edged p w h t.0 t.1 o t.3

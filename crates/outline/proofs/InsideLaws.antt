@@ -1,9 +1,9 @@
 -- The main crossing and the body of an outline lie in the canvas.
+use Rattle.std.specs.Prelude.{Ok, Err}
 use mathlib.Core.Path.{◌≡◌, subst}
 use mathlib.Core.Bool.{Bool}
 use Prim.Native.Nat.{ℕ, ◌+◌, ◌-◌, ◌*◌, ◌/◌, ◌%◌, ◌≤◌, ◌<◌}
 use native.Mathlib.Omega.{arith}
-use Rattle.lists.specs.Answer.{ok, refused}
 use Rattle.lists.specs.Picture.{Picture}
 use Rattle.lists.proofs.AnswerLaws.{then_ok}
 use Rattle.lists.proofs.PlaceLaws.{column_in, row_in_lem}
@@ -29,7 +29,7 @@ pub record Around (w h x y : ℕ) (r : Rect) : Type 0 where
   pub bottom : y + 1 < r.bottom
   pub rows : r.bottom ≤ h
 
-pub body_around : (p : Picture) (w h x y : ℕ) (r : Rect) → x < w → y < h → body_of p w h x y ≡ ok r → Around w h x y r
+pub body_around : (p : Picture) (w h x y : ℕ) (r : Rect) → x < w → y < h → body_of p w h x y ≡ Ok r → Around w h x y r
 unfolding body_of
 body_around p w h x y r a b e =
     let u = then_ok (along_of Body Up p w h x y) _ r e in
@@ -53,10 +53,10 @@ pub record Inside (w h : ℕ) (o : Outline) : Type 0 where
 
 -- of an answer
 abbrev InsideAnswer : ℕ → ℕ → Reading Outline → Type 0
-InsideAnswer w h (ok o) = Inside w h o
-InsideAnswer w h (refused r) = Unit {0}
+InsideAnswer w h (Ok o) = Inside w h o
+InsideAnswer w h (Err r) = Unit {0}
 
-table-inside : (p : Picture) (w h : ℕ) (n : Bool) (k : ℕ) (o : Outline) → k < h * w → table_of p w h n k ≡ ok o → Inside w h o
+table-inside : (p : Picture) (w h : ℕ) (n : Bool) (k : ℕ) (o : Outline) → k < h * w → table_of p w h n k ≡ Ok o → Inside w h o
 unfolding table_of
 table-inside p w h n k o l e =
     let b = then_ok (body_of p w h (k % w) (k / w)) _ o e in
@@ -67,7 +67,7 @@ table-inside p w h n k o l e =
     subst (InsideAnswer w h) s (record { column = x; row = y; body = a })
 
 -- the outline is a table's, whose main crossing stands at a place of the canvas
-pub outline_table : (find : FrameFinder) (p : Picture) (w h : ℕ) (o : Outline) → outline_by find p w h ≡ ok o → (n : Bool) × (k : ℕ) × (k < h * w) × (table_of p w h n k ≡ ok o)
+pub outline_table : (find : FrameFinder) (p : Picture) (w h : ℕ) (o : Outline) → outline_by find p w h ≡ Ok o → (n : Bool) × (k : ℕ) × (k < h * w) × (table_of p w h n k ≡ Ok o)
 unfolding outline_by
 outline_table find p w h o e =
     let c = then_ok (search_of ┌ p w h) _ o e in
@@ -76,5 +76,5 @@ outline_table find p w h o e =
     let k = then_ok (search_of ╬ p w h) _ o n.2 in
     (n.0, k.0, search_in ╬ p w h k.0 k.1, k.2)
 
-pub outline_inside : (find : FrameFinder) (p : Picture) (w h : ℕ) (o : Outline) → outline_by find p w h ≡ ok o → Inside w h o
+pub outline_inside : (find : FrameFinder) (p : Picture) (w h : ℕ) (o : Outline) → outline_by find p w h ≡ Ok o → Inside w h o
 outline_inside find p w h o e = let t = outline_table find p w h o e in table-inside p w h t.0 t.1 o t.2 t.3

@@ -1,4 +1,5 @@
 -- Laws of the search for a character, and of the steps of the outline.
+use Rattle.std.specs.Prelude.{Ok, Err, ℕ, Option}
 use mathlib.Core.Path.{◌≡◌, refl, sym, ◌∙◌}
 use mathlib.Core.Bool.{Bool, true, false}
 use mathlib.Core.List.{List, [], ◌∷◌}
@@ -8,7 +9,6 @@ use native.Mathlib.Numerals.{add-one}
 use native.Mathlib.Omega.{arith}
 use lib.Dec.{eqb}
 use borrow.Author.Tests.{eq-eqb, ne_eqb, lt-ltb}
-use Rattle.lists.specs.Answer.{ok, refused}
 use Rattle.lists.specs.Choose.{choose}
 use Rattle.lists.specs.Picture.{Picture, at}
 use Rattle.lists.proofs.AnswerLaws.{refused-ok}
@@ -19,15 +19,12 @@ use Rattle.model.specs.declared.Refusal.{Refusal}
 use Rattle.model.specs.declared.Refusal.TheVariants.{CharactersNotFound}
 use Rattle.walks.specs.Frame.{frame_of}
 use Rattle.walks.specs.Kinds.{name}
-use Rattle.walks.specs.Walk.{walk_of, go_of, steps_in}
+use Rattle.walks.specs.Walk.{walk_of, go_of}
 use Rattle.walks.specs.declared.Direction.TheVariants.{Right, Down}
-use Rattle.walks.specs.declared.Walked.{Walked}
-use Rattle.walks.specs.declared.Walked.TheVariants.{Steps, Stopped}
 use Rattle.walks.proofs.WalkLaws.{found_bound}
 use Rattle.frames.specs.Body.{body_of}
 use Rattle.outline.specs.Outline.{search_from, search_of, named_by, named_of, crossing_by, table_of, outline_by, outline_of}
 use Rattle.outline.specs.Answers.{WalkFits}
-use Rattle.outline.specs.declared.Crossing.{Crossing}
 
 -- a search has come to place i
 pub record Searching (f : ℕ → ℕ) (c n i : ℕ) : Type 0 where
@@ -39,91 +36,91 @@ searching_start f c n = record { along = omega arith; same = rw sub-zero }
 
 module _ {f : ℕ → ℕ} {c n i : ℕ} (q : Searching f c n i) where
   module _ (h : i < n) where
-    turn : search_from f c i (n - i) ≡ choose (eqb (f i) c) (ok i) (search_from f c (i + 1) (n - (i + 1)))
+    turn : search_from f c i (n - i) ≡ choose (eqb (f i) c) (Ok i) (search_from f c (i + 1) (n - (i + 1)))
     unfolding search_from
     turn =
         let e : n - i ≡ suc (n - (i + 1)) = omega arith in
         rw (e, add-one)
 
-    pub searching_found : f i ≡ c → ok i ≡ search_from f c 0 n
+    pub searching_found : f i ≡ c → Ok i ≡ search_from f c 0 n
     searching_found e = sym (turn ∙ rw (eq-eqb (f i) c e)) ∙ q.same
 
     pub searching_more : (f i ≡ c → ⊥) → Searching f c n (i + 1)
     searching_more e = record { along = omega arith; same = sym (turn ∙ rw (ne_eqb (f i) c e)) ∙ q.same }
 
-  pub searching_end : n ≤ i → refused (CharactersNotFound c) ≡ search_from f c 0 n
+  pub searching_end : n ≤ i → Err (CharactersNotFound c) ≡ search_from f c 0 n
   unfolding search_from
   searching_end h =
       let z : n - i ≡ 0 = omega arith in
       sym (rw z) ∙ q.same
 
 -- what is found is one of the places
-found_in : (f : ℕ → ℕ) (c i n j : ℕ) → search_from f c i n ≡ ok j → (i ≤ j) × (j < i + n)
+found_in : (f : ℕ → ℕ) (c i n j : ℕ) → search_from f c i n ≡ Ok j → (i ≤ j) × (j < i + n)
 unfolding search_from
 found_in f c i zero j e = refused-ok e
 found_in f c i (suc n) j e = go (eqb (f i) c) e (found_in f c (suc i) n j)
   where
-    go : (t : Bool) → choose t (ok i) (search_from f c (suc i) n) ≡ ok j → (search_from f c (suc i) n ≡ ok j → (suc i ≤ j) × (j < suc i + n)) → (i ≤ j) × (j < i + suc n)
+    go : (t : Bool) → choose t (Ok i) (search_from f c (suc i) n) ≡ Ok j → (search_from f c (suc i) n ≡ Ok j → (suc i ≤ j) × (j < suc i + n)) → (i ≤ j) × (j < i + suc n)
     go true e r = let z : i ≡ j = cc in (omega arith, omega arith)
     go false e r = let b = r e in (omega arith, omega arith)
 
-pub search_in : (c : ℕ) (p : Picture) (w h j : ℕ) → search_of c p w h ≡ ok j → j < h * w
+pub search_in : (c : ℕ) (p : Picture) (w h j : ℕ) → search_of c p w h ≡ Ok j → j < h * w
 search_in c p w h j e = let b = found_in (at p w) c 0 (h * w) j e in omega arith
 
 -- a name above the table, or none
 module _ (p : Picture) (w h : ℕ) where
-  pub none_above : ok false ≡ named_of p w h 0
+  pub none_above : Ok false ≡ named_of p w h 0
   unfolding named_by
   none_above = refl
 
   module _ (row : ℕ) (b : 0 < row) where
-    pub name_above_lem : (r : Rect) → frame_of name p w h 0 0 ≡ ok r → ok true ≡ named_of p w h row
+    pub name_above_lem : (r : Rect) → frame_of name p w h 0 0 ≡ Ok r → Ok true ≡ named_of p w h row
     unfolding named_by
     name_above_lem r e = rw (lt-ltb 0 row b, e)
 
-    pub name-refused : (r : Refusal) → frame_of name p w h 0 0 ≡ refused r → refused r ≡ named_of p w h row
+    pub name-refused : (r : Refusal) → frame_of name p w h 0 0 ≡ Err r → Err r ≡ named_of p w h row
     unfolding named_by
     name-refused r e = rw (lt-ltb 0 row b, e)
 
 -- the place that a walk came to fits
-pub walk_fits : (line : ℕ → ℕ) (s a : List ℕ) (n from : ℕ) (r : Walked) → from + n < 2 ^ 64 → steps_in r ≡ walk_of line s a n → WalkFits from r
-walk_fits line s a n from (Steps k) f e = omega (arith, found_bound line s a n k (sym e))
-walk_fits line s a n from (Stopped r) f e = tt
+pub walk_fits : (line : ℕ → ℕ) (s a : List ℕ) (n from : ℕ) (r : Reading ℕ) → from + n < 2 ^ 64 → r ≡ walk_of line s a n → WalkFits from r
+walk_fits line s a n from (Ok k) f e = omega (arith, found_bound line s a n k (sym e))
+walk_fits line s a n from (Err r) f e = tt
 
 -- the table at a main crossing
 module _ (p : Picture) (w h : ℕ) (n : Bool) (k : ℕ) where
-  pub no_body : (r : Refusal) → body_of p w h (k % w) (k / w) ≡ refused r → refused r ≡ table_of p w h n k
+  pub no_body : (r : Refusal) → body_of p w h (k % w) (k / w) ≡ Err r → Err r ≡ table_of p w h n k
   unfolding table_of
   no_body r e = rw e
 
-  pub table_made : (b : Rect) → body_of p w h (k % w) (k / w) ≡ ok b → (u v : Walked) {c d : Crossing}
-      → c ≡ crossing_by (k % w) (steps_in u) → steps_in u ≡ go_of Right p w h (k % w) (k / w) (╬ ∷ []) (═ ∷ ╪ ∷ [])
-      → d ≡ crossing_by (k / w) (steps_in v) → steps_in v ≡ go_of Down p w h (k % w) (k / w) (╬ ∷ []) (║ ∷ ╫ ∷ [])
-      → ok (record { named = n; x = k % w; y = k / w; right = c; below = d; body = b }) ≡ table_of p w h n k
+  pub table_made : (b : Rect) → body_of p w h (k % w) (k / w) ≡ Ok b → (u v : Reading ℕ) {c d : (Option ℕ)}
+      → c ≡ crossing_by (k % w) u → u ≡ go_of Right p w h (k % w) (k / w) (╬ ∷ []) (═ ∷ ╪ ∷ [])
+      → d ≡ crossing_by (k / w) v → v ≡ go_of Down p w h (k % w) (k / w) (╬ ∷ []) (║ ∷ ╫ ∷ [])
+      → Ok (record { named = n; x = k % w; y = k / w; right = c; below = d; body = b }) ≡ table_of p w h n k
   unfolding table_of
   table_made b e u v ec eu ed ev = rw (e, ec, eu, ed, ev)
 
 -- the steps of the outline
 module _ (p : Picture) (w h : ℕ) where
-  pub no_corner : (r : Refusal) → search_of ┌ p w h ≡ refused r → refused r ≡ outline_of p w h
+  pub no_corner : (r : Refusal) → search_of ┌ p w h ≡ Err r → Err r ≡ outline_of p w h
   unfolding outline_by
   no_corner r e = rw e
 
-  module _ (c : ℕ) (ec : search_of ┌ p w h ≡ ok c) where
-    pub no_edge : (r : Refusal) → search_of ╥ p w h ≡ refused r → refused r ≡ outline_of p w h
+  module _ (c : ℕ) (ec : search_of ┌ p w h ≡ Ok c) where
+    pub no_edge : (r : Refusal) → search_of ╥ p w h ≡ Err r → Err r ≡ outline_of p w h
     unfolding outline_by
     no_edge r e = rw (ec, e)
 
-    module _ (i : ℕ) (ei : search_of ╥ p w h ≡ ok i) where
-      pub no_name : (r : Refusal) → named_of p w h (i / w) ≡ refused r → refused r ≡ outline_of p w h
+    module _ (i : ℕ) (ei : search_of ╥ p w h ≡ Ok i) where
+      pub no_name : (r : Refusal) → named_of p w h (i / w) ≡ Err r → Err r ≡ outline_of p w h
       unfolding outline_by
       no_name r e = rw (ec, ei, e)
 
-      module _ (n : Bool) (en : named_of p w h (i / w) ≡ ok n) where
-        pub no_crossing : (r : Refusal) → search_of ╬ p w h ≡ refused r → refused r ≡ outline_of p w h
+      module _ (n : Bool) (en : named_of p w h (i / w) ≡ Ok n) where
+        pub no_crossing : (r : Refusal) → search_of ╬ p w h ≡ Err r → Err r ≡ outline_of p w h
         unfolding outline_by
         no_crossing r e = rw (ec, ei, en, e)
 
-        pub table_is : (k : ℕ) → search_of ╬ p w h ≡ ok k → table_of p w h n k ≡ outline_of p w h
+        pub table_is : (k : ℕ) → search_of ╬ p w h ≡ Ok k → table_of p w h n k ≡ outline_of p w h
         unfolding outline_by
         table_is k e = rw (ec, ei, en, e)

@@ -1,9 +1,9 @@
 -- Cells that are read one after the other, up to the first refusal.
+use Rattle.std.specs.Prelude.{Ok, Err}
 use mathlib.Core.Path.{◌≡◌, sym, ◌∙◌}
 use mathlib.Core.List.{List}
 use Prim.Native.Nat.{ℕ, suc, ◌+◌, ◌-◌, ◌≤◌, ◌<◌}
 use native.Mathlib.Omega.{arith}
-use Rattle.lists.specs.Answer.{ok, refused}
 use Rattle.model.specs.Refusals.{Reading}
 use Rattle.model.specs.declared.Refusal.{Refusal}
 use Rattle.cells.specs.Plane.{Plane, plane_in}
@@ -13,11 +13,11 @@ use Rattle.passes.specs.Readings.{pass}
 use Rattle.passes.specs.Passes.{fine, fine_row, fine_rows}
 
 module _ (P : Plane) (y x : ℕ) where
-  pub fine-ok : {k : ℕ} → ok k ≡ region_at P y x → ok tt ≡ fine P y x
+  pub fine-ok : {k : ℕ} → Ok k ≡ region_at P y x → Ok tt ≡ fine P y x
   unfolding fine
   fine-ok e = rw (sym e)
 
-  pub fine_not : {r : Refusal} → refused r ≡ region_at P y x → refused r ≡ fine P y x
+  pub fine_not : {r : Refusal} → Err r ≡ region_at P y x → Err r ≡ fine P y x
   unfolding fine
   fine_not e = rw (sym e)
 
@@ -37,16 +37,16 @@ pass-start f x n at e =
     record { from = omega arith; within = omega arith; rest = rw (z, e) }
 
 module _ {f : ℕ → Reading (Unit {0})} {x n at : ℕ} (p : Passed f x n at) where
-  pub pass_end : x + n ≤ at → ok tt ≡ pass f x n
+  pub pass_end : x + n ≤ at → Ok tt ≡ pass f x n
   unfolding pass
   pass_end h = let z : x + n - at ≡ 0 = omega arith in sym (p.rest ∙ rw z)
 
   module _ (h : at < x + n) where
-    pub pass_stop : {r : Refusal} → refused r ≡ f at → refused r ≡ pass f x n
+    pub pass_stop : {r : Refusal} → Err r ≡ f at → Err r ≡ pass f x n
     unfolding pass
     pass_stop e = let z : x + n - at ≡ suc (x + n - (at + 1)) = omega arith in sym (p.rest ∙ rw (z, sym e))
 
-    pub pass-next : ok tt ≡ f at → (to : ℕ) → to ≡ at + 1 → Passed f x n to
+    pub pass-next : Ok tt ≡ f at → (to : ℕ) → to ≡ at + 1 → Passed f x n to
     unfolding pass
     pass-next e to q =
         let z : x + n - at ≡ suc (x + n - to) = omega arith in

@@ -1,6 +1,6 @@
 -- Cells of a sheet that are all regions: document 01, refusals 18 and 19 (cell out of range, not a region), in their order.
-use Rattle.std.specs.Prelude.{ℕ, ◌-◌, length}
-use Rattle.lists.specs.Answer.{ok, ◌>>=◌, ◌>>◌}
+use Rattle.std.specs.Prelude.{ℕ, ◌-◌, length, Ok}
+use Rattle.lists.specs.Answer.{◌>>◌}
 use Rattle.model.specs.Refusals.{Reading}
 use Rattle.cells.specs.Plane.{Plane}
 use Rattle.cell_tests.specs.SheetCells.{region_at}
@@ -11,7 +11,7 @@ module _ (P : Plane) where
   unfoldable pub fine : ℕ → ℕ → Reading (Unit {0})
   fine y x = do
     region_at P y x
-    ok tt
+    Ok tt
 
   -- so are the n cells of row y from column x on
   abbrev pub fine_row : ℕ → ℕ → ℕ → Reading (Unit {0})

@@ -1,11 +1,10 @@
 -- Corners: the first cells of the first and the last row.
+use Rattle.std.specs.Prelude.{Ok, Err, Option, None, Some}
 use mathlib.Core.Path.{◌≡◌, refl, sym, ◌∙◌}
 use mathlib.Core.Bool.{false}
 use mathlib.Core.List.{List}
-use mathlib.Core.Option.{Option, none, some}
 use Prim.Native.Nat.{ℕ, zero, suc, ◌-◌, ◌<◌}
 use native.Mathlib.Omega.{arith}
-use Rattle.lists.specs.Answer.{ok, refused}
 use Rattle.lists.specs.Choose.{on_some}
 use Rattle.lists.specs.Run.{run}
 use Rattle.lists.proofs.AnswerLaws.{refused-ok}
@@ -22,36 +21,36 @@ use Rattle.rule_numbers.proofs.LineLaws.{first_cell, first-row, last_row}
 
 module _ (text : ℕ → List ℕ) (d : List ℕ) where
   -- a row's corner
-  pub corner_cell : (row : ℕ) (c : Cell) → some c ≡ slot_of d false row 0 → ok (policy_in text c) ≡ corner_policy text (some (row_in d row))
+  pub corner_cell : (row : ℕ) (c : Cell) → Some c ≡ slot_of d false row 0 → Ok (policy_in text c) ≡ corner_policy text (Some (row_in d row))
   corner_cell row c e = rw (first_cell d row, sym e)
 
-  pub corner_missing : (row : ℕ) → none ≡ slot_of d false row 0 → refused PlaneMalformed ≡ corner_policy text (some (row_in d row))
+  pub corner_missing : (row : ℕ) → None ≡ slot_of d false row 0 → Err PlaneMalformed ≡ corner_policy text (Some (row_in d row))
   corner_missing row e = rw (first_cell d row, sym e)
 
   module _ (n : ℕ) (h : 0 < n) where
     -- the last row's corner
-    pub bottom-corner : (p : Option HitPolicy) → ok p ≡ corner_policy text (some (row_in d (n - 1)))
-        → ok (on_some p BottomLeft NotPresent) ≡ bottom_left text (plane_in d n)
+    pub bottom-corner : (p : Option HitPolicy) → Ok p ≡ corner_policy text (Some (row_in d (n - 1)))
+        → Ok (on_some p BottomLeft NotPresent) ≡ bottom_left text (plane_in d n)
     bottom-corner p e = rw (last_row d n h, sym e)
 
-    pub bottom-refused : (r : Refusal) → refused r ≡ corner_policy text (some (row_in d (n - 1))) → refused r ≡ bottom_left text (plane_in d n)
+    pub bottom-refused : (r : Refusal) → Err r ≡ corner_policy text (Some (row_in d (n - 1))) → Err r ≡ bottom_left text (plane_in d n)
     bottom-refused r e = rw (last_row d n h, sym e)
 
     -- the first row's
-    pub top-corner : (p : Option HitPolicy) → ok p ≡ corner_policy text (some (row_in d 0))
-        → on_some p (λ g. ok (TopLeft g)) (bottom_left text (plane_in d n)) ≡ placement_of text (plane_in d n)
+    pub top-corner : (p : Option HitPolicy) → Ok p ≡ corner_policy text (Some (row_in d 0))
+        → on_some p (λ g. Ok (TopLeft g)) (bottom_left text (plane_in d n)) ≡ placement_of text (plane_in d n)
     unfolding placement_of
     top-corner p e = rw (first-row d n h, sym e)
 
-    pub top-refused : (r : Refusal) → refused r ≡ corner_policy text (some (row_in d 0)) → refused r ≡ placement_of text (plane_in d n)
+    pub top-refused : (r : Refusal) → Err r ≡ corner_policy text (Some (row_in d 0)) → Err r ≡ placement_of text (plane_in d n)
     unfolding placement_of
     top-refused r e = rw (first-row d n h, sym e)
 
   -- a plane without rows
-  pub no_rows : (n : ℕ) → n ≡ 0 → refused PlaneEmpty ≡ placement_of text (plane_in d n)
+  pub no_rows : (n : ℕ) → n ≡ 0 → Err PlaneEmpty ≡ placement_of text (plane_in d n)
   unfolding placement_of plane_in run
   no_rows n e = rw e
 
-  pub placed-rows : (n : ℕ) (p : HitPolicyPlacement) → ok p ≡ placement_of text (plane_in d n) → 0 < n
+  pub placed-rows : (n : ℕ) (p : HitPolicyPlacement) → Ok p ≡ placement_of text (plane_in d n) → 0 < n
   placed-rows zero p e = refused-ok (no_rows 0 refl ∙ sym e)
   placed-rows (suc n) p e = omega arith

@@ -1,9 +1,9 @@
 -- Two small sheets and their rule numbers, by computation.
+use Rattle.std.specs.Prelude.{Ok, Err}
 use mathlib.Core.Path.{◌≡◌, refl}
 use mathlib.Core.List.{List, [], ◌∷◌}
 use Prim.Native.Nat.{ℕ}
 use lib.ListN.{get_or}
-use Rattle.lists.specs.Answer.{ok, refused}
 use Rattle.model.specs.declared.Cell.TheVariants.{Region, VerticalOutputDoubleLine, HorizontalOutputDoubleLine, MainDoubleCrossing}
 use Rattle.model.specs.declared.HitPolicy.TheVariants.{Unique}
 use Rattle.model.specs.declared.Orientation.TheVariants.{RulesAsRows, RulesAsColumns}
@@ -42,25 +42,25 @@ column_sheet =
     ∷ (Region 0 ∷ VerticalOutputDoubleLine ∷ Region 3 ∷ [])
     ∷ []
 
-pub row-sheet : oriented_of (texts (0x31 ∷ [])) row_sheet ≡ ok (record { orientation = RulesAsRows; policy = Unique; rules = 1 })
+pub row-sheet : oriented_of (texts (0x31 ∷ [])) row_sheet ≡ Ok (record { orientation = RulesAsRows; policy = Unique; rules = 1 })
 unfolding oriented_of placement_of rule_numbers_of place_behind counted last holds holds_in by_letters same_text number_of digits
 row-sheet = refl
 
-pub column-sheet : oriented_of (texts (0x31 ∷ [])) column_sheet ≡ ok (record { orientation = RulesAsColumns; policy = Unique; rules = 1 })
+pub column-sheet : oriented_of (texts (0x31 ∷ [])) column_sheet ≡ Ok (record { orientation = RulesAsColumns; policy = Unique; rules = 1 })
 unfolding oriented_of placement_of rule_numbers_of place_behind counted last holds holds_in by_letters same_text number_of digits
 column-sheet = refl
 
 -- "+1" is the number 1
-pub plus_one_lem : oriented_of (texts (0x2B ∷ 0x31 ∷ [])) row_sheet ≡ ok (record { orientation = RulesAsRows; policy = Unique; rules = 1 })
+pub plus_one_lem : oriented_of (texts (0x2B ∷ 0x31 ∷ [])) row_sheet ≡ Ok (record { orientation = RulesAsRows; policy = Unique; rules = 1 })
 unfolding oriented_of placement_of rule_numbers_of place_behind counted last holds holds_in by_letters same_text number_of digits
 plus_one_lem = refl
 
 -- "0" is a number, and not the first
-pub zero_first : oriented_of (texts (0x30 ∷ [])) row_sheet ≡ refused (InvalidRuleNumber 0)
+pub zero_first : oriented_of (texts (0x30 ∷ [])) row_sheet ≡ Err (InvalidRuleNumber 0)
 unfolding oriented_of placement_of rule_numbers_of place_behind counted last holds holds_in by_letters same_text number_of digits
 zero_first = refl
 
 -- so is "5" in a column sheet
-pub five_first : oriented_of (texts (0x35 ∷ [])) column_sheet ≡ refused (InvalidRuleNumber 5)
+pub five_first : oriented_of (texts (0x35 ∷ [])) column_sheet ≡ Err (InvalidRuleNumber 5)
 unfolding oriented_of placement_of rule_numbers_of place_behind counted last holds holds_in by_letters same_text number_of digits
 five_first = refl

@@ -1,3 +1,2 @@
 pub mod Placement
 pub mod Orientation
-pub mod Told

@@ -1,6 +1,6 @@
 -- The orientation of a plane: `recognize_orientation` of the Rust.
-use Rattle.std.specs.Prelude.{Bool, true, false, ◌||◌, List, [], ◌∷◌, ℕ}
-use Rattle.lists.specs.Answer.{ok, refused, ◌>>=◌}
+use Rattle.std.specs.Prelude.{Bool, true, false, ◌||◌, List, [], ◌∷◌, ℕ, Ok, Err}
+use Rattle.lists.specs.Answer.{◌>>=◌}
 use Rattle.model.specs.Cells.{same_kind}
 use Rattle.model.specs.Refusals.{Reading}
 use Rattle.model.specs.declared.Cell.{Cell}
@@ -28,30 +28,30 @@ holds k (r ∷ P) = holds_in k r || holds k P
 
 -- a row sheet has its numbers left below (12)
 abbrev pub as_rows : HitPolicy → RuleNumbersPlacement → Reading Oriented
-as_rows h (numbers.LeftBelow n) = ok (record { orientation = RulesAsRows; policy = h; rules = n })
-as_rows h (numbers.RightAfter n) = refused ExpectedLeftBelow
-as_rows h numbers.NotPresent = refused ExpectedLeftBelow
+as_rows h (numbers.LeftBelow n) = Ok (record { orientation = RulesAsRows; policy = h; rules = n })
+as_rows h (numbers.RightAfter n) = Err ExpectedLeftBelow
+as_rows h numbers.NotPresent = Err ExpectedLeftBelow
 
 -- a column sheet has them right after (14)
 abbrev pub as_columns : HitPolicy → RuleNumbersPlacement → Reading Oriented
-as_columns h (numbers.LeftBelow n) = refused ExpectedRightAfter
-as_columns h (numbers.RightAfter n) = ok (record { orientation = RulesAsColumns; policy = h; rules = n })
-as_columns h numbers.NotPresent = refused ExpectedRightAfter
+as_columns h (numbers.LeftBelow n) = Err ExpectedRightAfter
+as_columns h (numbers.RightAfter n) = Ok (record { orientation = RulesAsColumns; policy = h; rules = n })
+as_columns h numbers.NotPresent = Err ExpectedRightAfter
 
 -- a sheet without a policy has no numbers (16), and is a crosstab sheet, which is not read (17)
 abbrev pub as_cross_tab : RuleNumbersPlacement → Reading Oriented
-as_cross_tab (numbers.LeftBelow n) = refused ExpectedNoRuleNumbers
-as_cross_tab (numbers.RightAfter n) = refused ExpectedNoRuleNumbers
-as_cross_tab numbers.NotPresent = refused CrossTab
+as_cross_tab (numbers.LeftBelow n) = Err ExpectedNoRuleNumbers
+as_cross_tab (numbers.RightAfter n) = Err ExpectedNoRuleNumbers
+as_cross_tab numbers.NotPresent = Err CrossTab
 
 -- with a horizontal crossing it is a row sheet (13); else with a vertical one a column sheet (15); else the policy's place decides
 abbrev pub oriented_by : Bool → Bool → HitPolicyPlacement → RuleNumbersPlacement → Reading Oriented
 oriented_by true v (TopLeft h) n = as_rows h n
-oriented_by true v (BottomLeft h) n = refused ExpectedTopLeft
-oriented_by true v NotPresent n = refused ExpectedTopLeft
-oriented_by false true (TopLeft h) n = refused ExpectedBottomLeft
+oriented_by true v (BottomLeft h) n = Err ExpectedTopLeft
+oriented_by true v NotPresent n = Err ExpectedTopLeft
+oriented_by false true (TopLeft h) n = Err ExpectedBottomLeft
 oriented_by false true (BottomLeft h) n = as_columns h n
-oriented_by false true NotPresent n = refused ExpectedBottomLeft
+oriented_by false true NotPresent n = Err ExpectedBottomLeft
 oriented_by false false (TopLeft h) n = as_rows h n
 oriented_by false false (BottomLeft h) n = as_columns h n
 oriented_by false false NotPresent n = as_cross_tab n

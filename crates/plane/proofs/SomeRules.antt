@@ -1,11 +1,11 @@
 -- A sheet that is stated has at least one rule: its numbers are counted from 1.
+use Rattle.std.specs.Prelude.{Ok, Err}
 use mathlib.Core.Path.{◌≡◌, refl}
 use mathlib.Core.Bool.{Bool, true, false}
 use mathlib.Core.List.{List}
 use Prim.Native.Nat.{ℕ, ◌<◌}
 use lib.Dec.{ltb}
 use borrow.Author.Tests.{ltb-true}
-use Rattle.lists.specs.Answer.{ok, refused}
 use Rattle.lists.specs.Choose.{choose}
 use Rattle.lists.proofs.AnswerLaws.{refused-ok, then_ok}
 use Rattle.model.specs.Refusals.{Reading}
@@ -30,40 +30,40 @@ Some (numbers.LeftBelow n) = 0 < n
 Some (numbers.RightAfter n) = 0 < n
 Some numbers.NotPresent = Unit {0}
 
-right-some : (m : Reading ℕ) (n : RuleNumbersPlacement) → right_of m ≡ ok n → Some n
-right-some (ok r) n e = go (ltb 0 r) refl e
+right-some : (m : Reading ℕ) (n : RuleNumbersPlacement) → right_of m ≡ Ok n → Some n
+right-some (Ok r) n e = go (ltb 0 r) refl e
   where
-    go : (t : Bool) → ltb 0 r ≡ t → ◌≡◌ {A = Reading RuleNumbersPlacement} (ok (choose t (numbers.RightAfter r) numbers.NotPresent)) (ok n) → Some n
+    go : (t : Bool) → ltb 0 r ≡ t → ◌≡◌ {A = Reading RuleNumbersPlacement} (Ok (choose t (numbers.RightAfter r) numbers.NotPresent)) (Ok n) → Some n
     go true h e = let z : numbers.RightAfter r ≡ n = cc in rw (← z) (ltb-true 0 r h)
     go false h e = let z : numbers.NotPresent ≡ n = cc in rw (← z) tt
-right-some (refused r) n e = refused-ok e
+right-some (Err r) n e = refused-ok e
 
-numbers-some : (text : ℕ → List ℕ) (P : Plane) (n : RuleNumbersPlacement) → rule_numbers_of text P ≡ ok n → Some n
+numbers-some : (text : ℕ → List ℕ) (P : Plane) (n : RuleNumbersPlacement) → rule_numbers_of text P ≡ Ok n → Some n
 unfolding rule_numbers_of
 numbers-some text P n e =
     let t = then_ok (numbers_left text P) _ n e in
     go t.0 (ltb 0 t.0) refl t.2
   where
-    go : (l : ℕ) (t : Bool) → ltb 0 l ≡ t → choose {A = Reading RuleNumbersPlacement} t (ok (numbers.LeftBelow l)) (right_of (numbers_right text P)) ≡ ok n → Some n
+    go : (l : ℕ) (t : Bool) → ltb 0 l ≡ t → choose {A = Reading RuleNumbersPlacement} t (Ok (numbers.LeftBelow l)) (right_of (numbers_right text P)) ≡ Ok n → Some n
     go l true h e = let z : numbers.LeftBelow l ≡ n = cc in rw (← z) (ltb-true 0 l h)
     go l false h e = right-some (numbers_right text P) n e
 
-rows-some : (h : HitPolicy) (n : RuleNumbersPlacement) (o : Oriented) → Some n → as_rows h n ≡ ok o → 0 < o.rules
+rows-some : (h : HitPolicy) (n : RuleNumbersPlacement) (o : Oriented) → Some n → as_rows h n ≡ Ok o → 0 < o.rules
 rows-some h (numbers.LeftBelow n) o s e = let z : record { orientation = RulesAsRows; policy = h; rules = n } ≡ o = cc in rw (← z) s
 rows-some h (numbers.RightAfter n) o s e = refused-ok e
 rows-some h numbers.NotPresent o s e = refused-ok e
 
-columns-some : (h : HitPolicy) (n : RuleNumbersPlacement) (o : Oriented) → Some n → as_columns h n ≡ ok o → 0 < o.rules
+columns-some : (h : HitPolicy) (n : RuleNumbersPlacement) (o : Oriented) → Some n → as_columns h n ≡ Ok o → 0 < o.rules
 columns-some h (numbers.LeftBelow n) o s e = refused-ok e
 columns-some h (numbers.RightAfter n) o s e = let z : record { orientation = RulesAsColumns; policy = h; rules = n } ≡ o = cc in rw (← z) s
 columns-some h numbers.NotPresent o s e = refused-ok e
 
-cross_none : (n : RuleNumbersPlacement) (o : Oriented) → as_cross_tab n ≡ ok o → 0 < o.rules
+cross_none : (n : RuleNumbersPlacement) (o : Oriented) → as_cross_tab n ≡ Ok o → 0 < o.rules
 cross_none (numbers.LeftBelow n) o e = refused-ok e
 cross_none (numbers.RightAfter n) o e = refused-ok e
 cross_none numbers.NotPresent o e = refused-ok e
 
-oriented_some : (a b : Bool) (p : HitPolicyPlacement) (n : RuleNumbersPlacement) (o : Oriented) → Some n → oriented_by a b p n ≡ ok o → 0 < o.rules
+oriented_some : (a b : Bool) (p : HitPolicyPlacement) (n : RuleNumbersPlacement) (o : Oriented) → Some n → oriented_by a b p n ≡ Ok o → 0 < o.rules
 oriented_some true b (TopLeft h) n o s e = rows-some h n o s e
 oriented_some true b (BottomLeft h) n o s e = refused-ok e
 oriented_some true b NotPresent n o s e = refused-ok e
@@ -74,7 +74,7 @@ oriented_some false false (TopLeft h) n o s e = rows-some h n o s e
 oriented_some false false (BottomLeft h) n o s e = columns-some h n o s e
 oriented_some false false NotPresent n o s e = cross_none n o e
 
-pub some-rules : (text : ℕ → List ℕ) (P : Plane) (s : Sheet) → stated_sheet text P ≡ ok s → 0 < s.rules
+pub some-rules : (text : ℕ → List ℕ) (P : Plane) (s : Sheet) → stated_sheet text P ≡ Ok s → 0 < s.rules
 unfolding stated_sheet oriented_of
 some-rules text P s e =
     let o = then_ok (oriented_of text P) _ s e in

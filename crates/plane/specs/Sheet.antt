@@ -1,6 +1,6 @@
 -- The upright sheet that a plane states, with its hit policy and its rule count: document 01, "Placement and upright sheet".
-use Rattle.std.specs.Prelude.{List, [], ◌∷◌, ℕ}
-use Rattle.lists.specs.Answer.{ok, ◌>>=◌}
+use Rattle.std.specs.Prelude.{List, [], ◌∷◌, ℕ, Ok}
+use Rattle.lists.specs.Answer.{◌>>=◌}
 use Rattle.lists.specs.Choose.{on_some}
 use Rattle.model.specs.Refusals.{Reading}
 use Rattle.model.specs.declared.HitPolicy.{HitPolicy}
@@ -21,7 +21,7 @@ unfoldable pub stated_sheet : (ℕ → List ℕ) → Plane → Reading Sheet
 stated_sheet text P = do
   o ← oriented_of text P
   u ← upright_of o.orientation P
-  ok (record { orientation = o.orientation; policy = o.policy; rules = o.rules; plane = u })
+  Ok (record { orientation = o.orientation; policy = o.policy; rules = o.rules; plane = u })
 
 -- "with its last row put before its first"
 abbrev pub last_first : Plane → Plane

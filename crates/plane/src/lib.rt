@@ -10,10 +10,7 @@ ghost use Rattle.plane.specs.LentSheet.{lent_sheet, WorkRoom};
 ghost use Rattle.plane.specs.Sheet.{stated_sheet};
 ghost use Rattle.plane.specs.Stated.{stated_in, StatedHeld};
 
-use lent::Loaded;
 use model::{HitPolicy, Orientation, Refusal};
-use placement::OrientedSheet;
-use turning::Turned;
 
 // Which way a sheet is laid out, its hit policy, how many rules it has, and the rows of its upright sheet.
 #[derive(Clone, Copy)]
@@ -24,12 +21,6 @@ pub struct Stated {
     pub rows: usize,
 }
 
-#[derive(Clone, Copy)]
-pub enum StatedSheet {
-    Upright(Stated),
-    NotStated(Refusal),
-}
-
 // The upright sheet of a plane of n rows, into `out`.
 pub fn upright_sheet(
     plane: &[u32],
@@ -38,26 +29,21 @@ pub fn upright_sheet(
     spans: &[u32],
     count: usize,
     out: &mut [u32],
-) -> StatedSheet
+) -> Result<Stated, Refusal>
     requires { Held plane.now n bytes.now spans.now count × (plane_size ≤ length out.old) }
     ensures sheet { stated_in result out.new ≡ stated_sheet (text_in bytes.now spans.now count) (plane_in plane.now n) }
     ensures held { StatedHeld result out.new bytes.now spans.now count }
 {
-    let o = match placement::orient(plane, n, bytes, spans, count) {
-        OrientedSheet::Sheet(o) => o,
-        OrientedSheet::NotOriented(r) => return StatedSheet::NotStated(r),
-    };
+    let o = placement::orient(plane, n, bytes, spans, count)?;
     let orientation = o.orientation;
     let policy = o.policy;
-    match turning::upright(orientation, plane, n, out) {
-        Turned::Rows(rows) => StatedSheet::Upright(Stated {
-            orientation,
-            policy,
-            rules: o.rules,
-            rows,
-        }),
-        Turned::NotTurned(r) => StatedSheet::NotStated(r),
-    }
+    let rows = turning::upright(orientation, plane, n, out)?;
+    Ok(Stated {
+        orientation,
+        policy,
+        rules: o.rules,
+        rows,
+    })
 }
 
 // What a lent plane states before the clause rules; the upright sheet goes into `out`.
@@ -71,13 +57,11 @@ pub fn lent_sheet(
     plane: &mut [u32],
     spans: &mut [u32],
     out: &mut [u32],
-) -> StatedSheet
+) -> Result<Stated, Refusal>
     requires { WorkRoom plane.old spans.old out.old }
     ensures sheet { stated_in result out.new ≡ lent_sheet (record { rows = rows.now; kinds = kinds.now; regions = regions.now; offsets = offsets.now; sizes = sizes.now; bytes = bytes.now }) }
     ensures held { StatedHeld result out.new bytes.now spans.new (length offsets.now) }
 {
-    match lent::load(rows, kinds, regions, offsets, sizes, bytes, plane, spans) {
-        Loaded::Rows(n) => upright_sheet(plane, n, bytes, spans, offsets.len(), out),
-        Loaded::NotLoaded(r) => StatedSheet::NotStated(r),
-    }
+    let n = lent::load(rows, kinds, regions, offsets, sizes, bytes, plane, spans)?;
+    upright_sheet(plane, n, bytes, spans, offsets.len(), out)
 }

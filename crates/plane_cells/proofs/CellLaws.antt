@@ -1,4 +1,5 @@
 -- The cells of a frame: how many they are, and the row that has them.
+use Rattle.std.specs.Prelude.{Ok, Err, Option, ℕ, Some}
 use mathlib.Core.Path.{◌≡◌, refl, sym, ap, ◌∙◌}
 use mathlib.Core.Bool.{Bool, true, false}
 use mathlib.Core.List.{List, [], ◌∷◌, ◌++◌, append_assoc, append-nil}
@@ -7,7 +8,6 @@ use native.Mathlib.Omega.{arith}
 use lib.Dec.{eqb}
 use lib.ListN.{length, length-append}
 use borrow.Author.Tests.{lt-ltb, le-ltb, lt-leb, le-leb}
-use Rattle.lists.specs.Answer.{ok, refused}
 use Rattle.lists.specs.Choose.{choose}
 use Rattle.model.specs.Limits.{plane_rows, plane_cells}
 use Rattle.model.specs.declared.Cell.{Cell}
@@ -15,8 +15,6 @@ use Rattle.model.specs.declared.Cell.TheVariants.{Region, VerticalOutputDoubleLi
 use Rattle.model.specs.declared.Refusal.TheVariants.{OverLimit}
 use Rattle.cells.specs.Plane.{cells_in}
 use Rattle.cells.proofs.PlaneLaws.{length-cells}
-use Rattle.outline.specs.declared.Crossing.{Crossing}
-use Rattle.outline.specs.declared.Crossing.TheVariants.{At}
 use Rattle.outline.specs.declared.Outline.{Outline}
 use Rattle.plane_cells.specs.Made.{row_of}
 use Rattle.plane_cells.specs.Row.{Row, is_at, fitting, output_before, annotation_before, with_cell}
@@ -67,26 +65,26 @@ module _ (o : Outline) (x region row : ℕ) (s : RowSofar) (d : List ℕ) where
         length-line is_annotation VerticalAnnotationDoubleLine,
       )
 
-  pub row_over : plane_rows ≤ row → refused OverLimit ≡ fitting row more
+  pub row_over : plane_rows ≤ row → Err OverLimit ≡ fitting row more
   row_over h = rw (le-leb plane_rows row h)
 
-  pub cells_over : row < plane_rows → plane_cells < total → refused OverLimit ≡ fitting row more
+  pub cells_over : row < plane_rows → plane_cells < total → Err OverLimit ≡ fitting row more
   cells_over h g =
       let q : plane_cells < length more.cells = rw length_more g in
       rw (lt-leb plane_rows row h, lt-ltb plane_cells (length more.cells) q)
 
-  cells_fit : row < plane_rows → total ≤ plane_cells → ok more ≡ fitting row more
+  cells_fit : row < plane_rows → total ≤ plane_cells → Ok more ≡ fitting row more
   cells_fit h g =
       let q : length more.cells ≤ plane_cells = rw length_more g in
       rw (lt-leb plane_rows row h, le-ltb plane_cells (length more.cells) q)
 
   -- the double lines and the cell were put one after the other
-  pub cells_added : (u : Bool) → u ≡ is_annotation → row < plane_rows → total ≤ plane_cells → (a b : ℕ) (d1 d2 d3 : List ℕ) {output annotation : Crossing}
+  pub cells_added : (u : Bool) → u ≡ is_annotation → row < plane_rows → total ≤ plane_cells → (a b : ℕ) (d1 d2 d3 : List ℕ) {output annotation : (Option ℕ)}
       → cells_in d1 row a ≡ cells_in d row s.cells ++ choose is_output (VerticalOutputDoubleLine ∷ []) []
       → cells_in d2 row b ≡ cells_in d1 row a ++ choose u (VerticalAnnotationDoubleLine ∷ []) []
       → cells_in d3 row (b + 1) ≡ cells_in d2 row b ++ cell
-      → output ≡ choose is_output (At s.cells) s.output → annotation ≡ choose u (At a) s.annotation
-      → ok (row_of (record { cells = b + 1; output = output; annotation = annotation }) d3 row) ≡ fitting row more
+      → output ≡ choose is_output (Some s.cells) s.output → annotation ≡ choose u (Some a) s.annotation
+      → Ok (row_of (record { cells = b + 1; output = output; annotation = annotation }) d3 row) ≡ fitting row more
   cells_added u q h g a b d1 d2 d3 {output} {annotation} e1 e2 e3 m n =
       let la : length (cells_in d row s.cells) ≡ s.cells = length-cells d row s.cells in
       let lb : length (cells_in d row s.cells ++ output_before o x) ≡ a = ap length (sym e1) ∙ length-cells d1 row a in
@@ -96,4 +94,4 @@ module _ (o : Outline) (x region row : ℕ) (s : RowSofar) (d : List ℕ) where
       ∙ append_assoc (cells_in d row s.cells) (output_before o x) (annotation_before o x ++ cell)) in
       let mm : output ≡ more.output = rw la m in
       let nn : annotation ≡ more.annotation = rw (lb, ← q) n in
-      ap ok (rw (cs, mm, nn)) ∙ cells_fit h g
+      ap Ok (rw (cs, mm, nn)) ∙ cells_fit h g

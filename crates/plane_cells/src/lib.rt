@@ -3,7 +3,6 @@
 
 ghost use Rattle.std.specs.Prelude.{true, ◌≡◌, [], ◌∷◌, ◌++◌, ◌+◌, ◌≤◌, ◌<◌, length};
 ghost use Rattle.lists.specs.Choose.{choose};
-ghost use Rattle.outline.specs.declared.Crossing.TheVariants.{At};
 ghost use Rattle.model.specs.Cells.{Small};
 ghost use Rattle.model.specs.Limits.{plane_rows, plane_cells, plane_size, region_count};
 ghost use Rattle.cells.specs.Plane.{cells_in, KeptBefore};
@@ -12,15 +11,15 @@ ghost use Rattle.plane_cells.specs.Made.{row_of, row_made, RowFit, RowFits};
 
 use model::limits::{PLANE_CELLS, PLANE_ROWS};
 use model::{Cell, Refusal};
-use outline::{Crossing, Outline};
+use outline::Outline;
 
 // Whether a crossing stands at a column or row.
-pub fn is_at(c: Crossing, x: usize) -> bool
+pub fn is_at(c: Option<usize>, x: usize) -> bool
     ensures { result ≡ is_at c x }
 {
     match c {
-        Crossing::At(i) => i == x,
-        Crossing::Nowhere => false,
+        Some(i) => i == x,
+        None => false,
     }
 }
 
@@ -28,14 +27,8 @@ pub fn is_at(c: Crossing, x: usize) -> bool
 #[derive(Clone, Copy)]
 pub struct RowSofar {
     pub cells: usize,
-    pub output: Crossing,
-    pub annotation: Crossing,
-}
-
-#[derive(Clone, Copy)]
-pub enum RowMade {
-    Cells(RowSofar),
-    NoCells(Refusal),
+    pub output: Option<usize>,
+    pub annotation: Option<usize>,
 }
 
 // A double line behind the first i cells of a row, where there is one.
@@ -53,10 +46,10 @@ fn add_line_if(plane: &mut [u32], row: usize, i: usize, t: bool, c: Cell) -> usi
 }
 
 // The column of a double line: a new one, or the last.
-fn column_if(t: bool, i: usize, last: Crossing) -> Crossing
-    ensures { result ≡ choose t (At i) last }
+fn column_if(t: bool, i: usize, last: Option<usize>) -> Option<usize>
+    ensures { result ≡ choose t (Some i) last }
 {
-    if t { Crossing::At(i) } else { last }
+    if t { Some(i) } else { last }
 }
 
 fn one_if(t: bool) -> usize
@@ -73,21 +66,21 @@ pub fn add_cells(
     plane: &mut [u32],
     row: usize,
     s: RowSofar,
-) -> RowMade
+) -> Result<RowSofar, Refusal>
     requires { (region < region_count) × RowFit s row × (plane_size ≤ length plane.old) }
     ensures made { row_made result plane.new row ≡ fitting row (with_cell o x region (row_of s plane.old row)) }
     ensures fits { RowFits result row }
     ensures before { KeptBefore plane.old plane.new row }
 {
     if PLANE_ROWS <= row {
-        return RowMade::NoCells(Refusal::OverLimit);
+        return Err(Refusal::OverLimit);
     }
     let is_output = x == o.x;
     let right = o.right;
     let is_annotation = is_at(right, x);
     let from = s.cells;
     if PLANE_CELLS < from + one_if(is_output) + one_if(is_annotation) + 1 {
-        return RowMade::NoCells(Refusal::OverLimit);
+        return Err(Refusal::OverLimit);
     }
     let a = add_line_if(plane, row, from, is_output, Cell::VerticalOutputDoubleLine);
     let b = add_line_if(
@@ -102,7 +95,7 @@ pub fn add_cells(
     let last_annotation = s.annotation;
     let output = column_if(is_output, from, last_output);
     let annotation = column_if(is_annotation, a, last_annotation);
-    RowMade::Cells(RowSofar {
+    Ok(RowSofar {
         cells: b + 1,
         output,
         annotation,

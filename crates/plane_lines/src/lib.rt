@@ -14,7 +14,7 @@ fn put_cell(out: &mut [u8], at: usize, plane: &[u32], row: usize, i: usize) -> u
     ensures { Written out.old out.new at (0x20 ∷ decimal (cell_number (cell_at plane.now row i))) 21 result }
 {
     let c = cells::cell_at(plane, row, i);
-    print::put_behind(out, at, model::cell_number(c) as u64)
+    print::put_behind(out, at, c.number() as u64)
 }
 
 // The cells of a row, and a line feed.
@@ -24,10 +24,8 @@ fn put_cells(out: &mut [u8], at: usize, plane: &[u32], row: usize) -> usize
 {
     let count = plane[row] as usize;
     let mut n = print::put_number(out, at, count as u64);
-    let mut i = 0;
-    while i < count {
+    for i in 0..count {
         n = put_cell(out, n, plane, row, i);
-        i += 1;
     }
     print::put_word(out, n, b"\n")
 }
@@ -38,10 +36,8 @@ pub fn put_plane(out: &mut [u8], at: usize, plane: &[u32], n: usize) -> usize
     ensures { Written out.old out.new at (plane_lines (plane_in plane.now n)) plane_bytes result }
 {
     let mut m = print::put_count(out, at, b"plane ", n);
-    let mut row = 0;
-    while row < n {
+    for row in 0..n {
         m = put_cells(out, m, plane, row);
-        row += 1;
     }
     m
 }

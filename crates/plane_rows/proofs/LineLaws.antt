@@ -1,9 +1,9 @@
 -- A line row goes behind the rows so far.
+use Rattle.std.specs.Prelude.{Ok, Err}
 use mathlib.Core.Path.{◌≡◌, ◌∙◌}
 use mathlib.Core.List.{List, [], ◌∷◌, ◌++◌}
 use Prim.Native.Nat.{ℕ, ◌+◌, ◌≤◌, ◌<◌}
 use borrow.Author.Tests.{lt-leb, le-leb}
-use Rattle.lists.specs.Answer.{ok, refused}
 use Rattle.lists.specs.Run.{build}
 use Rattle.model.specs.Limits.{plane_rows}
 use Rattle.model.specs.declared.Cell.{Cell}
@@ -15,12 +15,12 @@ use Rattle.plane_rows.specs.Rows.{add_line}
 use Rattle.plane_rows.specs.declared.PlaneSofar.{PlaneSofar}
 
 module _ (line : ℕ → Cell) (s : PlaneSofar) (d : List ℕ) where
-  pub line_over : plane_rows ≤ s.rows → refused OverLimit ≡ add_line line (rows_of s d)
+  pub line_over : plane_rows ≤ s.rows → Err OverLimit ≡ add_line line (rows_of s d)
   line_over h = rw (length-plane d s.rows, le-leb plane_rows s.rows h)
 
   pub line_added : Fits s d → s.rows < plane_rows → (d1 d2 : List ℕ) → KeptBefore d d1 s.rows → cells_in d1 s.rows s.width ≡ build s.width line
       → plane_in d2 (s.rows + 1) ≡ plane_in d1 s.rows ++ (cells_in d1 s.rows s.width ∷ [])
-      → ok (rows_of (record { rows = s.rows + 1; width = s.width; output = s.output; annotation = s.annotation }) d2) ≡ add_line line (rows_of s d)
+      → Ok (rows_of (record { rows = s.rows + 1; width = s.width; output = s.output; annotation = s.annotation }) d2) ≡ add_line line (rows_of s d)
   line_added f h d1 d2 k c e =
       let z : plane_in d2 (s.rows + 1) ≡ plane_in d s.rows ++ (build s.width line ∷ []) = e ∙ rw (kept-plane d d1 s.rows k f.plane.rows f.plane.cells, c) in
       rw (length-plane d s.rows, lt-leb plane_rows s.rows h, z)

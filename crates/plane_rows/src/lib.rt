@@ -2,7 +2,6 @@
 #![tactic(auto)]
 
 ghost use Rattle.std.specs.Prelude.{◌≡◌, ◌≤◌, ◌<◌, length};
-ghost use Rattle.lists.specs.Answer.{ok};
 ghost use Rattle.lists.specs.Choose.{choose};
 ghost use Rattle.lists.specs.Run.{build};
 ghost use Rattle.model.specs.Cells.{Small};
@@ -13,25 +12,18 @@ ghost use Rattle.plane_rows.specs.Made.{rows_of, rows_made, Fits, RowsFit, line_
 
 use model::limits::PLANE_ROWS;
 use model::{Cell, Refusal};
-use outline::Crossing;
 
 // The plane so far: its rows, the length of the last, and the columns of the two double lines.
 #[derive(Clone, Copy)]
 pub struct PlaneSofar {
     pub rows: usize,
     pub width: usize,
-    pub output: Crossing,
-    pub annotation: Crossing,
-}
-
-#[derive(Clone, Copy)]
-pub enum RowsMade {
-    Sofar(PlaneSofar),
-    NoRows(Refusal),
+    pub output: Option<usize>,
+    pub annotation: Option<usize>,
 }
 
 // Cell i of a line row: that of the main crossing, or that of the annotation crossing below it.
-fn line_cell(main: bool, output: Crossing, annotation: Crossing, i: usize) -> Cell
+fn line_cell(main: bool, output: Option<usize>, annotation: Option<usize>, i: usize) -> Cell
     ensures cell { result ≡ line_cell main output annotation i }
     ensures small { Small result }
 {
@@ -56,37 +48,35 @@ fn put_line(
     row: usize,
     width: usize,
     main: bool,
-    output: Crossing,
-    annotation: Crossing,
+    output: Option<usize>,
+    annotation: Option<usize>,
 )
     requires { (row < plane_rows) × (width ≤ plane_cells) × (plane_size ≤ length plane.old) }
     ensures cells { cells_in plane.new row width ≡ build width (line_cell main output annotation) }
     ensures before { KeptBefore plane.old plane.new row }
 {
-    let mut i = 0;
-    while i < width {
+    for i in 0..width {
         let c = line_cell(main, output, annotation, i);
         cells::put_cell(plane, row, i, c);
-        i += 1;
     }
 }
 
 // A line row more.
-fn add_line(plane: &mut [u32], s: PlaneSofar, main: bool) -> RowsMade
+fn add_line(plane: &mut [u32], s: PlaneSofar, main: bool) -> Result<PlaneSofar, Refusal>
     requires { Fits s plane.old }
     ensures made { rows_made result plane.new ≡ add_line (line_cell main s.output s.annotation) (rows_of s plane.old) }
     ensures fits { RowsFit result plane.new }
 {
     let row = s.rows;
     if PLANE_ROWS <= row {
-        return RowsMade::NoRows(Refusal::OverLimit);
+        return Err(Refusal::OverLimit);
     }
     let width = s.width;
     let output = s.output;
     let annotation = s.annotation;
     put_line(plane, row, width, main, output, annotation);
     cells::end_row(plane, row, width);
-    RowsMade::Sofar(PlaneSofar {
+    Ok(PlaneSofar {
         rows: row + 1,
         width,
         output,
@@ -95,13 +85,18 @@ fn add_line(plane: &mut [u32], s: PlaneSofar, main: bool) -> RowsMade
 }
 
 // The same where a line stands there; else the rows are those so far.
-pub fn add_line_row(plane: &mut [u32], s: PlaneSofar, t: bool, main: bool) -> RowsMade
+pub fn add_line_row(
+    plane: &mut [u32],
+    s: PlaneSofar,
+    t: bool,
+    main: bool,
+) -> Result<PlaneSofar, Refusal>
     requires { Fits s plane.old }
-    ensures made { rows_made result plane.new ≡ choose t (add_line (line_cell main s.output s.annotation) (rows_of s plane.old)) (ok (rows_of s plane.old)) }
+    ensures made { rows_made result plane.new ≡ choose t (add_line (line_cell main s.output s.annotation) (rows_of s plane.old)) (Ok (rows_of s plane.old)) }
     ensures fits { RowsFit result plane.new }
 {
     if t {
         return add_line(plane, s, main);
     }
-    RowsMade::Sofar(s)
+    Ok(s)
 }

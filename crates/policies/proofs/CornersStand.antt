@@ -1,12 +1,11 @@
 -- In a plane whose rows have cells both corners can be read, and no cell of column 0 is missing.
+use Rattle.std.specs.Prelude.{Ok, Option, None, Some}
 use mathlib.Core.Path.{◌≡◌, refl}
 use mathlib.Core.List.{List, [], ◌∷◌, map}
-use mathlib.Core.Option.{Option, none, some}
 use Prim.Native.Nat.{ℕ, zero, suc, ◌+◌, ◌<◌}
 use native.Mathlib.Omega.{arith}
 use lib.Dec.{eqb}
 use lib.ListN.{length, drop}
-use Rattle.lists.specs.Answer.{ok}
 use Rattle.lists.specs.Choose.{on_some}
 use Rattle.lists.proofs.AllLaws.{All}
 use Rattle.model.specs.Refusals.{Reading}
@@ -22,16 +21,16 @@ use Rattle.policies.proofs.NeverLaws.{Never, never_if, never_some}
 
 -- what a reading answers
 abbrev pub Answers : {A : Type 0} → Reading A → Type 0
-Answers {A} m = (a : A) × (m ≡ ok a)
+Answers {A} m = (a : A) × (m ≡ Ok a)
 
 -- the last row has cells
-last_row : (r : List Cell) (P : Plane) → All HasCells (r ∷ P) → (t : List Cell) × (last (r ∷ P) ≡ some t) × HasCells t
+last_row : (r : List Cell) (P : Plane) → All HasCells (r ∷ P) → (t : List Cell) × (last (r ∷ P) ≡ Some t) × HasCells t
 unfolding last All
 last_row r [] q = (r, refl, q.0)
 last_row r (r' ∷ P) q = last_row r' P q.1
 
 module _ (text : ℕ → List ℕ) where
-  corner_answers : (r : List Cell) → HasCells r → Answers (corner_policy text (some r))
+  corner_answers : (r : List Cell) → HasCells r → Answers (corner_policy text (Some r))
   corner_answers [] h = absurd (omega arith)
   corner_answers (c ∷ r) h = (policy_in text c, refl)
 
@@ -41,9 +40,9 @@ module _ (text : ℕ → List ℕ) where
       let c = corner_answers l.0 l.2 in
       (on_some c.0 BottomLeft NotPresent, rw (l.1, c.1))
 
-  top_answers : (p : Option HitPolicy) (m : Reading HitPolicyPlacement) → Answers m → Answers (on_some p (λ h. ok (TopLeft h)) m)
-  top_answers (some h) m a = (TopLeft h, refl)
-  top_answers none m a = a
+  top_answers : (p : Option HitPolicy) (m : Reading HitPolicyPlacement) → Answers m → Answers (on_some p (λ h. Ok (TopLeft h)) m)
+  top_answers (Some h) m a = (TopLeft h, refl)
+  top_answers None m a = a
 
   -- neither 8 nor 10 by P1 or P2
   pub placement_answers : (P : Plane) → 0 < length P → All HasCells P → Answers (placement_of text P)
@@ -56,13 +55,13 @@ module _ (text : ℕ → List ℕ) where
 
   -- a line without missing cells
   abbrev Stands : Option Cell → Type 0
-  Stands c = (d : Cell) × (c ≡ some d)
+  Stands c = (d : Cell) × (c ≡ Some d)
 
   line-counted : (n : ℕ) (line : List (Option Cell)) → All Stands line → Never 10 (counted text n line)
   unfolding counted All
   line-counted n [] q = tt
-  line-counted n (none ∷ line) q = let z : ◌≡◌ {A = ℕ} 0 1 = let e = q.0.1 in cc in absurd (omega arith)
-  line-counted n (some c ∷ line) q =
+  line-counted n (None ∷ line) q = let z : ◌≡◌ {A = ℕ} 0 1 = let e = q.0.1 in cc in absurd (omega arith)
+  line-counted n (Some c ∷ line) q =
       let more = line-counted (n + 1) line q.1 in
       never_some 10 (number_in text c) _ _ (λ m. never_if 10 (eqb m (n + 1)) (counted text (n + 1) line) _ more refl) tt
 

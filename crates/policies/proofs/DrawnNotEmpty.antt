@@ -1,9 +1,9 @@
 -- What the whole reader does not come to: number 8, and number 10 where a row has no cells.
+use Rattle.std.specs.Prelude.{Ok, Err}
 use mathlib.Core.Path.{◌≡◌}
 use mathlib.Core.List.{List, map}
 use Prim.Native.Nat.{ℕ}
 use lib.ListN.{drop}
-use Rattle.lists.specs.Answer.{ok, refused}
 use Rattle.lists.proofs.AnswerLaws.{refused-ok}
 use Rattle.model.specs.Refusals.{Reading}
 use Rattle.model.specs.declared.Refusal.TheVariants.{PlaneEmpty}
@@ -23,11 +23,11 @@ use Rattle.policies.proofs.NeverEmptyPolicy.{never_stated}
 use Rattle.policies.proofs.NeverLaws.{Never, never_then, never_refused}
 
 answered : {A : Type 0} (n : ℕ) (m : Reading A) → Answers m → Never n m
-answered n (ok a) t = tt
-answered n (refused r) t = refused-ok t.1
+answered n (Ok a) t = tt
+answered n (Err r) t = refused-ok t.1
 
 module _ (find : FrameFinder) (s : List ℕ) where
-  module _ (o : Outline) (e : sheet_by find s ≡ ok o) (t : TextPlane) (f : drawn_plane_by find (rows_at s 0) o ≡ ok t) where
+  module _ (o : Outline) (e : sheet_by find s ≡ Ok o) (t : TextPlane) (f : drawn_plane_by find (rows_at s 0) o ≡ Ok t) where
     -- P1 and P2: a drawing's hit policy is placed, or there is none
     pub drawn_placement : Answers (placement_of (text_in t) t.plane)
     drawn_placement = placement_answers (text_in t) t.plane (drawn_has_rows find s o e t f) (drawn_rows_have_cells find s o e t f)
@@ -46,8 +46,8 @@ module _ (find : FrameFinder) (s : List ℕ) where
       never_stated name (text_in t) t.plane (answered 8 (placement_of (text_in t) t.plane) (drawn_placement o e t f)))))
 
 -- number 8: by walks, which the reader promises to follow, and by sides
-pub walked_not_empty : (s : List ℕ) → walked_policy s ≡ refused PlaneEmpty → ⊥
+pub walked_not_empty : (s : List ℕ) → walked_policy s ≡ Err PlaneEmpty → ⊥
 walked_not_empty s = never_refused (walked_policy s) PlaneEmpty (never_empty _ s never_walks)
 
-pub drawn_not_empty : (s : List ℕ) → drawn_policy s ≡ refused PlaneEmpty → ⊥
+pub drawn_not_empty : (s : List ℕ) → drawn_policy s ≡ Err PlaneEmpty → ⊥
 drawn_not_empty s = never_refused (drawn_policy s) PlaneEmpty (never_empty _ s never_sides)

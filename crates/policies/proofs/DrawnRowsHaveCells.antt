@@ -1,4 +1,5 @@
 -- The plane of a drawing has rows, and each of them has cells: the theorems `drawn_has_rows` and `drawn_rows_have_cells`.
+use Rattle.std.specs.Prelude.{Ok, Option, ℕ, Some, None}
 use mathlib.Core.Path.{◌≡◌, refl, ap, ◌∙◌}
 use mathlib.Core.Bool.{true}
 use mathlib.Core.List.{List, map}
@@ -6,7 +7,6 @@ use Prim.Native.Nat.{ℕ, ◌<◌}
 use native.Mathlib.Omega.{arith}
 use lib.ListN.{length}
 use borrow.Author.Tests.{eqb-true}
-use Rattle.lists.specs.Answer.{ok}
 use Rattle.lists.specs.OneOf.{one_of}
 use Rattle.lists.specs.Picture.{canvas}
 use Rattle.lists.proofs.AllLaws.{All}
@@ -16,8 +16,6 @@ use Rattle.model.specs.Box.{┬, ╥}
 use Rattle.cells.specs.Plane.{TextPlane}
 use Rattle.thin_layer.specs.Thin.{thin_of}
 use Rattle.policies.proofs.TopSideLaws.{tee_in_grid}
-use Rattle.outline.specs.declared.Crossing.{Crossing}
-use Rattle.outline.specs.declared.Crossing.TheVariants.{At, Nowhere}
 use Rattle.outline.specs.declared.Outline.{Outline}
 use Rattle.outline.proofs.EdgeLaws.{Edged, outline_edged}
 use Rattle.outline.proofs.InsideLaws.{Inside, outline_inside}
@@ -43,7 +41,7 @@ tee_corner : (c : ℕ) → c ≡ ┬ → is_corner c ≡ true
 unfolding one_of
 tee_corner c e = rw e
 
-module _ (find : FrameFinder) (s : List ℕ) (o : Outline) (e : sheet_by find s ≡ ok o) where
+module _ (find : FrameFinder) (s : List ℕ) (o : Outline) (e : sheet_by find s ≡ Ok o) where
   abbrev rs : List (List ℕ)
   rs = rows_at s 0
 
@@ -65,11 +63,11 @@ module _ (find : FrameFinder) (s : List ℕ) (o : Outline) (e : sheet_by find s 
       (tee_in_grid o.body o.x (omega (arith, inside.body.left)) (omega (arith, inside.body.right)) (omega (arith, inside.body.top, inside.body.bottom))
       (thin_layer rs) (canvas (widest rs) (length rs) (flat (widest rs) (map blank rs))) thin_tee)
 
-  crossing_below : (y : ℕ) (c : Crossing) → o.below ≡ c → is_at c y ≡ true → o.body.top < y
-  crossing_below y (At i) f h = omega (arith, eqb-true i y h, edged.below i f, inside.body.top)
-  crossing_below y Nowhere f h = true_false h refl
+  crossing_below : (y : ℕ) (c : Option ℕ) → o.below ≡ c → is_at c y ≡ true → o.body.top < y
+  crossing_below y (Some i) f h = omega (arith, eqb-true i y h, edged.below i f, inside.body.top)
+  crossing_below y None f h = true_false h refl
 
-  module _ (t : TextPlane) (f : drawn_plane_by find rs o ≡ ok t) where
+  module _ (t : TextPlane) (f : drawn_plane_by find rs o ≡ Ok t) where
     abbrev frames : Finder
     frames = find kind.grid (grid_layer rs o.body) (widest rs) (length rs)
 

@@ -1,4 +1,5 @@
 -- Document 01: a plane "is lent with its own row lengths and the same regions and texts". Its slices are well-formed and give it back.
+use Rattle.std.specs.Prelude.{Ok}
 use mathlib.Core.Path.{◌≡◌, refl, sym, ap, ◌∙◌, subst}
 use mathlib.Core.Bool.{Bool, true, ◌&&◌}
 use mathlib.Core.List.{List, [], ◌∷◌, map, flatten}
@@ -9,7 +10,6 @@ use borrow.Author.Tests.{le-leb, lt-ltb, ltb-true, ltb-false, eq-eqb}
 use lib.Dec.{ltb}
 use lib.ListN.{length, get_or, length-append, length-map}
 use lib.Seq.{take-append_seam, drop-append_seam}
-use Rattle.lists.specs.Answer.{ok}
 use Rattle.lists.specs.Run.{build}
 use Rattle.lists.proofs.AllLaws.{All, all_append, all-at}
 use Rattle.lists.proofs.AnswerLaws.{refused-ok}
@@ -125,7 +125,7 @@ module _ (count : ℕ) where
 
 module _ (l : LentPlane) where
   -- what a lent plane that is not refused is
-  pub lent_ok : (t : TextPlane) → lent_of l ≡ ok t → (well_formed l ≡ true) × (t ≡ record { plane = cut l.rows (lent_cells l); texts = build (length l.offsets) (lent_text l) })
+  pub lent_ok : (t : TextPlane) → lent_of l ≡ Ok t → (well_formed l ≡ true) × (t ≡ record { plane = cut l.rows (lent_cells l); texts = build (length l.offsets) (lent_text l) })
   unfolding lent_of
   lent_ok t e = by_flag (well_formed l) (λ q. (q, sym (taken q))) (λ q. refused-ok (rw q at e))
     where
@@ -166,7 +166,7 @@ module _ (l : LentPlane) where
     plane-kept : cut (map length P) (lent_cells (lent_as l P)) ≡ P
     plane-kept = ap (cut (map length P)) (cells-kept (flatten P)) ∙ cut_flatten P
 
-  pub lent_as_lem : (t : TextPlane) (P : Plane) → lent_of l ≡ ok t → Lendable (length l.offsets) P → lent_of (lent_as l P) ≡ ok (record { plane = P; texts = t.texts })
+  pub lent_as_lem : (t : TextPlane) (P : Plane) → lent_of l ≡ Ok t → Lendable (length l.offsets) P → lent_of (lent_as l P) ≡ Ok (record { plane = P; texts = t.texts })
   unfolding lent_of
   lent_as_lem t P e p =
       let w = lent_ok t e in

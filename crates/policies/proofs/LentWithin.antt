@@ -1,11 +1,11 @@
 -- A lent plane is within the limits, and so are its texts.
+use Rattle.std.specs.Prelude.{Ok, Err}
 use mathlib.Core.Path.{◌≡◌, refl}
 use mathlib.Core.Bool.{Bool, true, false}
 use mathlib.Core.List.{List, [], ◌∷◌}
 use Prim.Native.Nat.{ℕ, zero, suc, ◌≤◌, ◌<◌}
 use native.Mathlib.Omega.{arith}
 use lib.ListN.{length, get_or, take, drop, length-take, length-drop}
-use Rattle.lists.specs.Answer.{ok, refused}
 use Rattle.lists.specs.Choose.{choose}
 use Rattle.lists.specs.Run.{run, build}
 use Rattle.lists.specs.Transpose.{width}
@@ -51,11 +51,11 @@ module _ (l : LentPlane) where
       let t = take (get_or l.sizes k 0) b in
       omega (arith, trim-length t, length-take (get_or l.sizes k 0) b, length-drop (get_or l.offsets k 0) l.bytes, (parts_good_lem l e).few)
 
-  pub lent-within : (t : TextPlane) → lent_of l ≡ ok t → PlaneWithin t
+  pub lent-within : (t : TextPlane) → lent_of l ≡ Ok t → PlaneWithin t
   unfolding lent_of
   lent-within t e = go (well_formed l) refl e
     where
-      go : (b : Bool) → well_formed l ≡ b → choose {A = Reading TextPlane} b (ok lent) (refused LentPlaneMalformed) ≡ ok t → PlaneWithin t
+      go : (b : Bool) → well_formed l ≡ b → choose {A = Reading TextPlane} b (Ok lent) (Err LentPlaneMalformed) ≡ Ok t → PlaneWithin t
       go true h e =
           let z : lent ≡ t = cc in
           let r = rows_good l h in

@@ -1,12 +1,12 @@
 -- No step from the bytes of a drawing to its plane is refused by number 8.
+use Rattle.std.specs.Prelude.{Ok, Err, Result, ℕ, Option, None, Some}
 use mathlib.Core.Path.{refl}
 use mathlib.Core.Bool.{Bool, true, false, ◌&&◌}
 use mathlib.Core.List.{List, [], ◌∷◌, map}
-use mathlib.Core.Option.{Option, none, some}
 use Prim.Native.Nat.{ℕ, zero, suc, ◌+◌, ◌-◌, ◌*◌, ◌/◌, ◌%◌}
 use lib.Dec.{eqb, leb, ltb}
 use lib.ListN.{length}
-use Rattle.lists.specs.Answer.{ok, refused, those}
+use Rattle.lists.specs.Answer.{those}
 use Rattle.lists.specs.Choose.{choose}
 use Rattle.lists.specs.OneOf.{one_of}
 use Rattle.lists.specs.Picture.{Picture, at}
@@ -30,8 +30,6 @@ use Rattle.plane_rows.specs.Rows.{Rows, output_line, annotation_line, add_line}
 use Rattle.step.specs.PlaneStep.{corners_in, add_cell, row_by, add_row, add_frames, add_grid_row, no_rows, rows_by, plane_by}
 use Rattle.texts.specs.RegionText.{text_of, packed, texts_of}
 use Rattle.utf8.specs.Utf8.{checked, on_text}
-use Rattle.utf8.specs.declared.Checked.{Checked}
-use Rattle.utf8.specs.declared.Checked.TheVariants.{Valid, Invalid}
 use Rattle.walks.specs.Frame.{FrameFinder, Kind, frame_of}
 use Rattle.walks.specs.Kinds as kind
 use Rattle.walks.specs.Sides.{given, frame_at, by_sides}
@@ -53,7 +51,7 @@ never_walk line s a k (suc n) =
 never_search : (f : ℕ → ℕ) (c i n : ℕ) → Never 8 (search_from f c i n)
 unfolding search_from
 never_search f c i zero = refl
-never_search f c i (suc n) = never_if 8 (eqb (f i) c) (ok i) (search_from f c (suc i) n) tt (never_search f c (suc i) n)
+never_search f c i (suc n) = never_if 8 (eqb (f i) c) (Ok i) (search_from f c (suc i) n) tt (never_search f c (suc i) n)
 
 -- a way to find frames that is never refused by number 8: by walks, and by sides
 abbrev pub NeverFrames : FrameFinder → Type 0
@@ -69,8 +67,8 @@ never_walks K p w h x y =
     never_if 8 (eqb (x + a - c) x && eqb (y + b - d) y) _ _ tt refl))))
 
 never_given : (x y : ℕ) (r : Option Rect) → Never 8 (given x y r)
-never_given x y (some r) = tt
-never_given x y none = refl
+never_given x y (Some r) = tt
+never_given x y None = refl
 
 pub never_sides : NeverFrames by_sides
 never_sides K p w h x y = never_given x y (frame_at K p w h x y)
@@ -109,15 +107,15 @@ module _ (find : FrameFinder) (f : NeverFrames find) where
   unfolding sheet_by
   never_sheet s = go (checked s)
     where
-      go : (c : Checked) → Never 8 (on_text c (λ at. refused (InvalidUtf8 at)) (drawing_by find (rows_at s 0)))
-      go Valid = never_drawing (rows_at s 0)
-      go (Invalid at) = refl
+      go : (c : Result (Unit {0}) ℕ) → Never 8 (on_text c (λ at. Err (InvalidUtf8 at)) (drawing_by find (rows_at s 0)))
+      go (Ok tt) = never_drawing (rows_at s 0)
+      go (Err at) = refl
 
 -- the regions and their texts
 never_region : (f : Rect) (i : ℕ) (rs : List Rect) → Never 8 (region_from f i rs)
 unfolding region_from
 never_region f i [] = refl
-never_region f i (r ∷ rs) = never_if 8 (contains_of r f) (ok i) (region_from f (suc i) rs) tt (never_region f (suc i) rs)
+never_region f i (r ∷ rs) = never_if 8 (contains_of r f) (Ok i) (region_from f (suc i) rs) tt (never_region f (suc i) rs)
 
 never_texts : (p : Picture) (rs : List Rect) → Never 8 (texts_of p rs)
 unfolding texts_of
@@ -143,7 +141,7 @@ module _ (find : Finder) (f : (x y : ℕ) → Never 8 (find x y)) where
     never_row : (s : Rows) (r : Row) → Never 8 (add_row s r)
     never_row s r = never_if 8 (eqb (length r.cells) 0) _ _ tt tt
 
-    never_line : (b : Bool) (line : ℕ → Cell) (s : Rows) → Never 8 (choose b (add_line line s) (ok s))
+    never_line : (b : Bool) (line : ℕ → Cell) (s : Rows) → Never 8 (choose b (add_line line s) (Ok s))
     never_line b line s = never_if 8 b _ _ (never_if 8 (leb plane_rows (length s.plane)) _ _ refl tt) tt
 
     never_frames : (y : ℕ) (s : Rows) → Never 8 (add_frames o find regions p w y s)
@@ -154,8 +152,8 @@ module _ (find : Finder) (f : (x y : ℕ) → Never 8 (find x y)) where
 
     never_grid_row : (y : ℕ) (s : Rows) → Never 8 (add_grid_row o find regions p w y s)
     never_grid_row y s =
-        never_then 8 (choose (eqb y o.y) (add_line (output_line s.output s.annotation) s) (ok s)) _ (never_line (eqb y o.y) (output_line s.output s.annotation) s) (λ a _.
-        never_then 8 (choose (is_at o.below y) (add_line (annotation_line a.output) a) (ok a)) _ (never_line (is_at o.below y) (annotation_line a.output) a) (λ b _.
+        never_then 8 (choose (eqb y o.y) (add_line (output_line s.output s.annotation) s) (Ok s)) _ (never_line (eqb y o.y) (output_line s.output s.annotation) s) (λ a _.
+        never_then 8 (choose (is_at o.below y) (add_line (annotation_line a.output) a) (Ok a)) _ (never_line (is_at o.below y) (annotation_line a.output) a) (λ b _.
         never_frames y b))
 
     never_plane : (h : ℕ) → Never 8 (plane_by find o regions p w h)

@@ -1,12 +1,12 @@
 -- Where a plane's hit policy can be placed, its policy is never refused by number 8.
+use Rattle.std.specs.Prelude.{Ok, Option, None, Some}
 use mathlib.Core.Path.{◌≡◌, refl}
 use mathlib.Core.Bool.{Bool, true, false, not, ◌&&◌}
 use mathlib.Core.List.{List, [], ◌∷◌, map}
-use mathlib.Core.Option.{Option, none, some}
 use Prim.Native.Nat.{ℕ, zero, suc, ◌+◌, ◌-◌}
 use lib.Dec.{eqb, ltb}
 use lib.ListN.{length, drop}
-use Rattle.lists.specs.Answer.{ok, ◌>>◌}
+use Rattle.lists.specs.Answer.{◌>>◌}
 use Rattle.lists.specs.Choose.{choose, on_some}
 use Rattle.lists.specs.OneOf.{one_of}
 use Rattle.lists.specs.Transpose.{width}
@@ -36,7 +36,8 @@ use Rattle.allowed.specs.Allowed.{allowed_two, allowed_three, allowed_of}
 use Rattle.allowed.specs.Apart.{Met, twice, once, meet_row, on_met, apart_from, all_apart}
 use Rattle.clauses.specs.Clauses.{Found, main_of, outputs_end, text_at, optional_at, entries_of, one_output, many_outputs, outputs_of, notes_of, found_from, found_of}
 use Rattle.clauses.specs.Readings.{along}
-use Rattle.clauses.specs.SheetCells.{Place, place_of}
+use Rattle.clauses.specs.declared.Place.{Place}
+use Rattle.clauses.specs.SheetCells.{place_of}
 use Rattle.clauses.specs.Sizes.{differ, uneven, sized}
 use Rattle.clauses.specs.Stated.{clauses_of}
 use Rattle.recognizer.specs.StatedPolicy.{sheet_policy, stated_policy}
@@ -46,8 +47,8 @@ use Rattle.policies.proofs.NeverLaws.{Never, never_then, never_if, never_some, n
 never_behind : (k : Cell) (i : ℕ) (line : List (Option Cell)) → Never 8 (place_behind k i line)
 unfolding place_behind
 never_behind k i [] = refl
-never_behind k i (none ∷ line) = refl
-never_behind k i (some c ∷ line) = never_if 8 (same_kind k c) _ (place_behind k (i + 1) line) tt (never_behind k (i + 1) line)
+never_behind k i (None ∷ line) = refl
+never_behind k i (Some c ∷ line) = never_if 8 (same_kind k c) _ (place_behind k (i + 1) line) tt (never_behind k (i + 1) line)
 
 never_right : (m : Reading ℕ) → Never 8 m → Never 8 (right_of m)
 never_right m p = never_then 8 m _ p (λ _ _. tt)
@@ -56,8 +57,8 @@ module _ (text : ℕ → List ℕ) where
   never_counted : (n : ℕ) (line : List (Option Cell)) → Never 8 (counted text n line)
   unfolding counted
   never_counted n [] = tt
-  never_counted n (none ∷ line) = refl
-  never_counted n (some c ∷ line) =
+  never_counted n (None ∷ line) = refl
+  never_counted n (Some c ∷ line) =
       let more = never_counted (n + 1) line in
       never_some 8 (number_in text c) _ _ (λ m. never_if 8 (eqb m (n + 1)) (counted text (n + 1) line) _ more refl) tt
 
@@ -69,7 +70,7 @@ module _ (text : ℕ → List ℕ) where
   never_rule_numbers P =
       never_then 8 (numbers_left text P) _ (never_counted_behind HorizontalOutputDoubleLine (map first P)) (λ l _.
       never_if 8 (ltb 0 l) _ (right_of (numbers_right text P)) tt
-      (never_right (numbers_right text P) (never_counted_behind VerticalOutputDoubleLine (on_some (last P) (map some) []))))
+      (never_right (numbers_right text P) (never_counted_behind VerticalOutputDoubleLine (on_some (last P) (map Some) []))))
 
 -- orientation
 never_rows : (h : HitPolicy) (n : RuleNumbersPlacement) → Never 8 (as_rows h n)
@@ -126,7 +127,7 @@ module _ (text : ℕ → List ℕ) (P : Plane) (p : Never 8 (placement_of text P
 module _ (P : Plane) where
   never_region_at : (y x : ℕ) → Never 8 (region_at P y x)
   unfolding region_at
-  never_region_at y x = never_if 8 (ltb x (width_of P y)) _ _ (never_some 8 (region_of (cell_in P y x)) ok _ (λ _. tt) refl) refl
+  never_region_at y x = never_if 8 (ltb x (width_of P y)) _ _ (never_some 8 (region_of (cell_in P y x)) Ok _ (λ _. tt) refl) refl
 
   never_column : (joined : Bool) (top x : ℕ) → Never 8 (column_is joined P top x)
   unfolding column_is
@@ -174,8 +175,8 @@ module _ (P : Plane) where
       never_if 8 (eqb h 1) _ _ tt (never_if 8 (eqb h 2) (allowed_two P n m) _ (never_two n m) (never_if 8 (eqb h 3) (allowed_three P n m) _ (never_three n m) refl))
 
 never_main : (p : Option Place) → Never 8 (main_of p)
-never_main none = refl
-never_main (some p) = tt
+never_main None = refl
+never_main (Some p) = tt
 
 -- the clause rules
 module _ (text : ℕ → List ℕ) (P : Plane) where
@@ -204,7 +205,7 @@ module _ (text : ℕ → List ℕ) (P : Plane) where
       (never_if 8 (eqb h 2) _ _
       (never_then 8 (region_at P 0 x) _ (never_region_at P 0 x) (λ a _.
       never_then 8 (region_at P 1 x) _ (never_region_at P 1 x) (λ b _.
-      never_then 8 (choose (eqb a b) (ok none) (optional_at text P 0 x)) _ (never_if 8 (eqb a b) _ (optional_at text P 0 x) tt (never_optional 0 x)) (λ _ _.
+      never_then 8 (choose (eqb a b) (Ok None) (optional_at text P 0 x)) _ (never_if 8 (eqb a b) _ (optional_at text P 0 x) tt (never_optional 0 x)) (λ _ _.
       never_then 8 (optional_at text P 1 x) _ (never_optional 1 x) (λ _ _. tt)))))
       refl)
 
@@ -229,8 +230,8 @@ module _ (text : ℕ → List ℕ) (P : Plane) where
 
   never_notes : (q : Option Place) → Never 8 (notes_of text P q)
   unfolding notes_of
-  never_notes none = tt
-  never_notes (some q) =
+  never_notes None = tt
+  never_notes (Some q) =
       let x = q.col + 1 in
       let n = width_of P 0 - x in
       never_then 8 (refuse (not (ltb q.col (width_of P 0))) PlaneMalformed) _ (never_check 8 (not (ltb q.col (width_of P 0))) PlaneMalformed refl) (λ _ _.
@@ -248,7 +249,7 @@ module _ (text : ℕ → List ℕ) (P : Plane) where
       never_then 8 (refuse (not (ltb n e)) PlaneMalformed) _ (never_check 8 (not (ltb n e)) PlaneMalformed refl) (λ _ _.
       never_then 8 (allowed_of P n m h) _ (never_allowed P n m h) (λ allowed _.
       never_then 8 (along (text_at text P 0) 0 n) _ (never_texts 0 0 n) (λ _ _.
-      never_then 8 (choose allowed (along (optional_at text P (h - 1)) 0 n) (ok [])) _ (never_if 8 allowed (along (optional_at text P (h - 1)) 0 n) _ (never_optionals (h - 1) 0 n) tt) (λ _ _.
+      never_then 8 (choose allowed (along (optional_at text P (h - 1)) 0 n) (Ok [])) _ (never_if 8 allowed (along (optional_at text P (h - 1)) 0 n) _ (never_optionals (h - 1) 0 n) tt) (λ _ _.
       never_then 8 (entries_of text P (h + 1) 0 n) _ (never_entries (h + 1) 0 n) (λ _ _.
       never_then 8 (outputs_of text P (n + 1) m h allowed) _ (never_outputs (n + 1) m h allowed) (λ _ _.
       never_then 8 (entries_of text P (h + 1) (n + 1) m) _ (never_entries (h + 1) (n + 1) m) (λ _ _.

@@ -1,12 +1,12 @@
 -- A reading that is never refused by a certain number of document 01's table.
+use Rattle.std.specs.Prelude.{Ok, Err, Option, None, Some}
 use mathlib.Core.Path.{◌≡◌, refl, subst}
 use mathlib.Core.Bool.{Bool, true, false}
 use mathlib.Core.List.{List, [], ◌∷◌}
-use mathlib.Core.Option.{Option, none, some}
 use Prim.Native.Nat.{ℕ, zero, suc}
 use lib.Dec.{eqb}
 use borrow.Author.Tests.{eqb-false}
-use Rattle.lists.specs.Answer.{ok, refused, ◌>>=◌, each}
+use Rattle.lists.specs.Answer.{◌>>=◌, each}
 use Rattle.lists.specs.Choose.{choose, on_some}
 use Rattle.model.specs.Refusals.{Reading, numbers}
 use Rattle.model.specs.declared.Refusal.{Refusal}
@@ -15,25 +15,25 @@ use Rattle.clauses.specs.Readings.{along}
 
 -- it answers, or is refused by another number
 abbrev pub Never : {A : Type 0} → ℕ → Reading A → Type 0
-Never n (ok a) = Unit {0}
-Never n (refused r) = eqb (numbers r).n n ≡ false
+Never n (Ok a) = Unit {0}
+Never n (Err r) = eqb (numbers r).n n ≡ false
 
-pub never_refused : {A : Type 0} (m : Reading A) (r : Refusal) → Never (numbers r).n m → m ≡ refused r → ⊥
+pub never_refused : {A : Type 0} (m : Reading A) (r : Refusal) → Never (numbers r).n m → m ≡ Err r → ⊥
 never_refused m r p e = eqb-false (numbers r).n (numbers r).n (subst (Never (numbers r).n) e p) refl
 
 -- readings one after the other, and choices
 module _ (n : ℕ) where
-  pub never_then : {A B : Type 0} (m : Reading A) (k : A → Reading B) → Never n m → ((a : A) → m ≡ ok a → Never n (k a)) → Never n (◌>>=◌ m k)
-  never_then (ok a) k p q = q a refl
-  never_then (refused r) k p q = p
+  pub never_then : {A B : Type 0} (m : Reading A) (k : A → Reading B) → Never n m → ((a : A) → m ≡ Ok a → Never n (k a)) → Never n (◌>>=◌ m k)
+  never_then (Ok a) k p q = q a refl
+  never_then (Err r) k p q = p
 
   pub never_if : {A : Type 0} (t : Bool) (m m' : Reading A) → Never n m → Never n m' → Never n (choose t m m')
   never_if true m m' p q = p
   never_if false m m' p q = q
 
   pub never_some : {A B : Type 0} (o : Option A) (f : A → Reading B) (m : Reading B) → ((a : A) → Never n (f a)) → Never n m → Never n (on_some o f m)
-  never_some (some a) f m p q = p a
-  never_some none f m p q = q
+  never_some (Some a) f m p q = p a
+  never_some None f m p q = q
 
   pub never_check : (t : Bool) (r : Refusal) → eqb (numbers r).n n ≡ false → Never n (refuse t r)
   never_check true r p = p
@@ -52,4 +52,4 @@ module _ (n : ℕ) where
   pub never_every : (f : ℕ → Reading Bool) → ((i : ℕ) → Never n (f i)) → (i k : ℕ) → Never n (every f i k)
   unfolding every
   never_every f p i zero = tt
-  never_every f p i (suc k) = never_then (f i) _ (p i) (λ t _. never_if t (every f (suc i) k) (ok false) (never_every f p (suc i) k) tt)
+  never_every f p i (suc k) = never_then (f i) _ (p i) (λ t _. never_if t (every f (suc i) k) (Ok false) (never_every f p (suc i) k) tt)

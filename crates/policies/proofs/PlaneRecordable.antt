@@ -1,10 +1,10 @@
 -- What a plane within the limits states can be recorded, if its texts are short: the law `plane_bounded`.
+use Rattle.std.specs.Prelude.{Ok}
 use mathlib.Core.Path.{◌≡◌, refl, sym, subst, ◌∙◌}
 use mathlib.Core.List.{List, [], ◌∷◌}
 use Prim.Native.Nat.{ℕ, ◌≤◌, ◌<◌}
 use native.Mathlib.Omega.{arith}
 use lib.ListN.{length}
-use Rattle.lists.specs.Answer.{ok}
 use Rattle.lists.specs.Transpose.{width}
 use Rattle.lists.proofs.AllLaws.{All, all-at}
 use Rattle.lists.proofs.AnswerLaws.{then_ok}
@@ -44,10 +44,10 @@ first-row (r ∷ P) = refl
 -- an upright sheet within the limits
 module _ (name : Text) (text : ℕ → List ℕ) (named : Short text_bytes name) (short : (k : ℕ) → length (text k) ≤ text_bytes) where
   module _ (s : Sheet) (some : 0 < s.rules) (w : Within s.plane) where
-    few-rules : (f : Shape) → checked_shape s.plane s.rules ≡ ok f → s.rules < plane_rows
+    few-rules : (f : Shape) → checked_shape s.plane s.rules ≡ Ok f → s.rules < plane_rows
     few-rules f e = omega (arith, w.rows, (checked_matches s.plane s.rules f e).entries)
 
-    module _ (f : Shape) (e : ok f ≡ checked_shape s.plane s.rules) where
+    module _ (f : Shape) (e : Ok f ≡ checked_shape s.plane s.rules) where
       abbrev policy : Policy
       policy = with name s (stated text s some f e)
 
@@ -72,13 +72,13 @@ module _ (name : Text) (text : ℕ → List ℕ) (named : Short text_bytes name)
             rules = omega (arith, (counted_stated text s.plane s.rules f).3, few-rules f (sym e));
           }
 
-    sheet_bounded : (p : Policy) → sheet_policy name text s ≡ ok p → Bounded p
+    sheet_bounded : (p : Policy) → sheet_policy name text s ≡ Ok p → Bounded p
     sheet_bounded p e =
         let a = then_ok (checked_shape s.plane s.rules) _ p (sym (by_shape text s some name) ∙ e) in
         let z : policy a.0 (sym a.1) ≡ p = let g = a.2 in cc in
         subst Bounded z (record { recordable = shaped_recordable a.0 (sym a.1); few = few a.0 (sym a.1) })
 
-  sheet-within : (P : Plane) (s : Sheet) → stated_sheet text P ≡ ok s → Within P → Within s.plane
+  sheet-within : (P : Plane) (s : Sheet) → stated_sheet text P ≡ Ok s → Within P → Within s.plane
   unfolding stated_sheet
   sheet-within P s e w =
       let o = then_ok (oriented_of text P) _ s e in
@@ -86,7 +86,7 @@ module _ (name : Text) (text : ℕ → List ℕ) (named : Short text_bytes name)
       let z : record { orientation = o.0.orientation; policy = o.0.policy; rules = o.0.rules; plane = u.0 } ≡ s = let g = u.2 in cc in
       rw (← z) (upright-within o.0.orientation P u.0 u.1 w)
 
-  pub plane_bounded : (P : Plane) → Within P → (p : Policy) → stated_policy name text P ≡ ok p → Bounded p
+  pub plane_bounded : (P : Plane) → Within P → (p : Policy) → stated_policy name text P ≡ Ok p → Bounded p
   unfolding stated_policy
   plane_bounded P w p e =
       let s = then_ok (stated_sheet text P) (sheet_policy name text) p e in

@@ -1,4 +1,5 @@
 -- Each row of a plane has cells, where a frame starts in a row above the line rows: the theorem `rows_have_cells`.
+use Rattle.std.specs.Prelude.{Ok, Err}
 use mathlib.Core.Path.{◌≡◌, refl, subst}
 use mathlib.Core.Bool.{Bool, true, false}
 use mathlib.Core.List.{List, [], ◌∷◌, ◌++◌}
@@ -9,7 +10,7 @@ use native.Mathlib.Omega.{arith}
 use lib.Dec.{eqb, leb}
 use lib.ListN.{length, length-append}
 use borrow.Author.Tests.{eqb-true, eqb-false}
-use Rattle.lists.specs.Answer.{ok, refused, ◌>>=◌}
+use Rattle.lists.specs.Answer.{◌>>=◌}
 use Rattle.lists.specs.Choose.{choose}
 use Rattle.lists.specs.Picture.{Picture}
 use Rattle.lists.specs.Run.{build}
@@ -47,27 +48,27 @@ same_keeps s t e q = subst (λ (u : Rows). Keeps s u) e (q, λ h. h)
 more_keeps : (s t : Rows) (r : List Cell) → s.plane ++ (r ∷ []) ≡ t.plane → 0 < length r → All HasCells s.plane → All HasCells t.plane
 more_keeps s t r e h q = subst (All HasCells) e (all_append HasCells s.plane (r ∷ []) q (all_one HasCells r h))
 
-line_keeps : (line : ℕ → Cell) (s t : Rows) → add_line line s ≡ ok t → 0 < s.width → All HasCells s.plane → Keeps s t
+line_keeps : (line : ℕ → Cell) (s t : Rows) → add_line line s ≡ Ok t → 0 < s.width → All HasCells s.plane → Keeps s t
 line_keeps line s t e l q = go (leb plane_rows (length s.plane)) e
   where
     go : (b : Bool)
-        → choose b (refused OverLimit) (ok (record { plane = s.plane ++ (build s.width line ∷ []); width = s.width; output = s.output; annotation = s.annotation })) ≡ ok t
+        → choose b (Err OverLimit) (Ok (record { plane = s.plane ++ (build s.width line ∷ []); width = s.width; output = s.output; annotation = s.annotation })) ≡ Ok t
         → Keeps s t
     go true e = refused-ok e
     go false e =
         let z : s.width ≡ t.width = cc in
         (more_keeps s t (build s.width line) (cc) (omega (arith, length_run line 0 s.width)) q, λ h. omega arith)
 
-line_if : (b : Bool) (line : ℕ → Cell) (s t : Rows) → choose b (add_line line s) (ok s) ≡ ok t → (b ≡ true → 0 < s.width) → All HasCells s.plane → Keeps s t
+line_if : (b : Bool) (line : ℕ → Cell) (s t : Rows) → choose b (add_line line s) (Ok s) ≡ Ok t → (b ≡ true → 0 < s.width) → All HasCells s.plane → Keeps s t
 line_if true line s t e l q = line_keeps line s t e (l refl) q
 line_if false line s t e l q = same_keeps s t (cc) q
 
 -- the row of some frames, if it has cells
-row_keeps : (s t : Rows) (r : Row) → add_row s r ≡ ok t → All HasCells s.plane → Keeps s t × (HasCells r.cells → 0 < t.width)
+row_keeps : (s t : Rows) (r : Row) → add_row s r ≡ Ok t → All HasCells s.plane → Keeps s t × (HasCells r.cells → 0 < t.width)
 row_keeps s t r e q = go (eqb (length r.cells) 0) refl e
   where
     go : (b : Bool) → eqb (length r.cells) 0 ≡ b
-        → choose {A = Reading Rows} b (ok s) (ok (record { plane = s.plane ++ (r.cells ∷ []); width = length r.cells; output = r.output; annotation = r.annotation })) ≡ ok t
+        → choose {A = Reading Rows} b (Ok s) (Ok (record { plane = s.plane ++ (r.cells ∷ []); width = length r.cells; output = r.output; annotation = r.annotation })) ≡ Ok t
         → Keeps s t × (HasCells r.cells → 0 < t.width)
     go true h e = (same_keeps s t (cc) q, λ l. absurd (omega (arith, eqb-true (length r.cells) 0 h)))
     go false h e =
@@ -77,7 +78,7 @@ row_keeps s t r e q = go (eqb (length r.cells) 0) refl e
 
 module _ (o : Outline) (find : Finder) (regions : List Rect) (p : Picture) (w : ℕ) where
   -- a frame gives a cell
-  cell_added : (n y x : ℕ) (s t : Row) → add_cell o find regions n y x s ≡ ok t → HasCells t.cells
+  cell_added : (n y x : ℕ) (s t : Row) → add_cell o find regions n y x s ≡ Ok t → HasCells t.cells
   cell_added n y x s t e =
       let a = then_ok (find x y) (λ f. ◌>>=◌ (region_of regions f) (λ i. fitting n (with_cell o x i s))) t e in
       let b = then_ok (region_of regions a.0) (λ i. fitting n (with_cell o x i s)) t a.2 in
@@ -95,17 +96,17 @@ module _ (o : Outline) (find : Finder) (regions : List Rect) (p : Picture) (w : 
     abbrev Passed : ℕ → Row → Type 0
     Passed k r = x < k → HasCells r.cells
 
-    corner_passed : (n k : ℕ) (s t : Row) → choose (is_corner (p k y)) (add_cell o find regions n y k s) (ok s) ≡ ok t → Passed k s → Passed (suc k) t
+    corner_passed : (n k : ℕ) (s t : Row) → choose (is_corner (p k y)) (add_cell o find regions n y k s) (Ok s) ≡ Ok t → Passed k s → Passed (suc k) t
     corner_passed n k s t e q l = go (is_corner (p k y)) refl e
       where
-        go : (b : Bool) → is_corner (p k y) ≡ b → choose b (add_cell o find regions n y k s) (ok s) ≡ ok t → HasCells t.cells
+        go : (b : Bool) → is_corner (p k y) ≡ b → choose b (add_cell o find regions n y k s) (Ok s) ≡ Ok t → HasCells t.cells
         go true h e = cell_added n y k s t e
         go false h e =
             let z : s ≡ t = cc in
             subst (λ (r : Row). HasCells r.cells) z
             (⊎_elim (λ u. true_false (subst (λ (j : ℕ). is_corner (p j y) ≡ true) u c) h) (λ m. q m) (eq-or-lt_of_le (le_of_suc-le-suc l)))
 
-    row_has_cells : (n : ℕ) (s t : Row) → x < w → row_by o find regions p w n y s ≡ ok t → HasCells t.cells
+    row_has_cells : (n : ℕ) (s t : Row) → x < w → row_by o find regions p w n y s ≡ Ok t → HasCells t.cells
     row_has_cells n s t l e =
         each_through (λ k. is_corner (p k y)) (add_cell o find regions n y) Passed (corner_passed n) 0 w w (omega arith) s t e (λ m. absurd (omega arith)) l
 
@@ -115,10 +116,10 @@ module _ (o : Outline) (find : Finder) (regions : List Rect) (p : Picture) (w : 
     abbrev Begun : ℕ → Rows → Type 0
     Begun y s = All HasCells s.plane × (top < y → 0 < s.width)
 
-    grid_row_begun : (y : ℕ) (s t : Rows) → add_grid_row o find regions p w y s ≡ ok t → Begun y s → Begun (suc y) t
+    grid_row_begun : (y : ℕ) (s t : Rows) → add_grid_row o find regions p w y s ≡ Ok t → Begun y s → Begun (suc y) t
     grid_row_begun y s t e q =
-        let under : Rows → Reading Rows = λ a. choose (is_at o.below y) (add_line (annotation_line a.output) a) (ok a) in
-        let a = then_ok (choose (eqb y o.y) (add_line (output_line s.output s.annotation) s) (ok s)) (λ a. ◌>>=◌ (under a) (add_frames o find regions p w y)) t e in
+        let under : Rows → Reading Rows = λ a. choose (is_at o.below y) (add_line (annotation_line a.output) a) (Ok a) in
+        let a = then_ok (choose (eqb y o.y) (add_line (output_line s.output s.annotation) s) (Ok s)) (λ a. ◌>>=◌ (under a) (add_frames o find regions p w y)) t e in
         let b = then_ok (under a.0) (add_frames o find regions p w y) t a.2 in
         let start : Row = record { cells = []; output = b.0.output; annotation = b.0.annotation } in
         let n = length b.0.plane in
@@ -132,10 +133,10 @@ module _ (o : Outline) (find : Finder) (regions : List Rect) (p : Picture) (w : 
               (λ m. r.0.1 (v.1 (u.1 (q.1 m)))) (eq-or-lt_of_le (le_of_suc-le-suc l)),
         )
 
-    pub rows_have_cells : (h : ℕ) (P : Plane) → plane_by find o regions p w h ≡ ok P → All HasCells P
+    pub rows_have_cells : (h : ℕ) (P : Plane) → plane_by find o regions p w h ≡ Ok P → All HasCells P
     unfolding plane_by
     rows_have_cells h P e =
-        let a = then_ok (rows_by find o regions p w h) (λ s. ok s.plane) P e in
+        let a = then_ok (rows_by find o regions p w h) (λ s. Ok s.plane) P e in
         let z : a.0.plane ≡ P = let g = a.2 in cc in
         subst (All HasCells) z
         (each_through (λ _. true) (add_grid_row o find regions p w) Begun grid_row_begun 0 h h (omega arith) no_rows a.0 a.1 (all_none HasCells, λ m. absurd (omega arith))).0

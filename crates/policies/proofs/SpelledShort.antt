@@ -1,12 +1,11 @@
 -- The texts of a sheet in slot order are no longer than the texts of its regions: the law `spelled-short`.
+use Rattle.std.specs.Prelude.{Ok, Err, None, Some}
 use mathlib.Core.Path.{◌≡◌, refl}
 use mathlib.Core.Bool.{Bool, true, false}
 use mathlib.Core.List.{List, [], ◌∷◌, ◌++◌}
-use mathlib.Core.Option.{none, some}
 use Prim.Native.Nat.{ℕ, zero, suc, ◌+◌, ◌≤◌}
 use native.Mathlib.Omega.{arith}
 use lib.ListN.{length}
-use Rattle.lists.specs.Answer.{ok, refused}
 use Rattle.lists.specs.Choose.{choose}
 use Rattle.lists.proofs.AllLaws.{All, all_append, all-run}
 use Rattle.model.specs.Refusals.{Reading}
@@ -41,24 +40,24 @@ module _ (m : ℕ) where
   present-short (b ∷ t) h = h
 
   allowed-short : (t : Text) → Short m t → Short m (allowed_text t)
-  allowed-short none h = h
-  allowed-short (some t) h = omega (arith, split-length t)
+  allowed-short None h = h
+  allowed-short (Some t) h = omega (arith, split-length t)
 
   default-short : (t : Text) → Short m t → Short m (default_text t)
-  default-short none h = h
-  default-short (some t) h = go (values_of t).default refl
+  default-short None h = h
+  default-short (Some t) h = go (values_of t).default refl
     where
       go : (d : Text) → (values_of t).default ≡ d → Short m d
-      go none e = omega arith
-      go (some d) e = omega (arith, default-length t d e)
+      go None e = omega arith
+      go (Some d) e = omega (arith, default-length t d e)
 
 module _ (m : ℕ) (text : ℕ → List ℕ) (short : (k : ℕ) → length (text k) ≤ m) (P : Plane) where
   cell_short : (y x : ℕ) → length (cell_text text P y x) ≤ m
   cell_short y x = go (region_at P y x)
     where
       go : (a : Reading ℕ) → length (read_or a text []) ≤ m
-      go (ok k) = short k
-      go (refused r) = omega arith
+      go (Ok k) = short k
+      go (Err r) = omega arith
 
   optional-short : (y x : ℕ) → Short m (optional text P y x)
   optional-short y x = present-short m (cell_text text P y x) (cell_short y x)
@@ -68,18 +67,18 @@ module _ (m : ℕ) (text : ℕ → List ℕ) (short : (k : ℕ) → length (text
 
   module _ (s : Shape) where
     label-short : Short m (label_text text P s)
-    label-short = choose-short m s.layout.labelled (optional text P 0 (first_output text P s)) none (optional-short 0 (first_output text P s)) (omega arith)
+    label-short = choose-short m s.layout.labelled (optional text P 0 (first_output text P s)) None (optional-short 0 (first_output text P s)) (omega arith)
 
     input-short : (i : ℕ) → All (Short m) (input_text text P s i)
     unfolding All
     input-short i = (
       cell_short 0 i,
-      (choose-short m s.allowed (optional text P (values_row text P s) i) none (optional-short (values_row text P s) i) (omega arith), tt),
+      (choose-short m s.allowed (optional text P (values_row text P s) i) None (optional-short (values_row text P s) i) (omega arith), tt),
     )
 
     values-short : (j : ℕ) → Short m (values_text text P s j)
     values-short j =
-        choose-short m s.layout.valued (optional text P (values_row text P s) (first_output text P s + j)) none (optional-short (values_row text P s) (first_output text P s + j)) (omega arith)
+        choose-short m s.layout.valued (optional text P (values_row text P s) (first_output text P s + j)) None (optional-short (values_row text P s) (first_output text P s + j)) (omega arith)
 
     output-short : (j : ℕ) → All (Short m) (output_text text P s j)
     unfolding All

@@ -1,12 +1,11 @@
 -- Demand 3, second half: "Whichever even plane is lent and accepted as a column sheet: with its last row put before its first and the whole
 -- then turned, the double lines of that row too, nothing but short slices refuses it, and otherwise it gives the same record, that word set aside."
+use Rattle.std.specs.Prelude.{Ok, Option, None, Some}
 use mathlib.Core.Path.{◌≡◌, refl, ap, ◌∙◌}
 use mathlib.Core.List.{List, [], ◌∷◌}
-use mathlib.Core.Option.{Option, none, some}
 use Prim.Native.Nat.{ℕ, zero, suc, ◌≤◌}
 use native.Mathlib.Omega.{arith}
 use lib.ListN.{length, get_or, length-map}
-use Rattle.lists.specs.Answer.{ok}
 use Rattle.lists.specs.Choose.{on_some}
 use Rattle.lists.specs.Transpose.{width, Even, column, transpose}
 use Rattle.lists.proofs.AnswerLaws.{then_ok}
@@ -31,13 +30,13 @@ use Rattle.policies.specs.TurnedPlane.{turned_plane}
 use Rattle.policies.proofs.LentAsLaws.{Lendable, built, crossing_below, lent_ok, lent_lendable, lent_as_lem}
 
 -- the last row is one of the rows
-last_row : (P : Plane) (L : List Cell) → last P ≡ some L → (k : ℕ) × (get_or P k [] ≡ L)
+last_row : (P : Plane) (L : List Cell) → last P ≡ Some L → (k : ℕ) × (get_or P k [] ≡ L)
 unfolding last
 last_row [] L e = let z : ◌≡◌ {A = ℕ} 0 1 = cc in absurd (omega arith)
 last_row (r ∷ []) L e = (0, cc)
 last_row (r ∷ q ∷ P) L e = let w = last_row (q ∷ P) L e in (suc w.0, w.1)
 
-length-last_first : (P : Plane) (L : List Cell) → last P ≡ some L → length (L ∷ but_last P) ≡ length P
+length-last_first : (P : Plane) (L : List Cell) → last P ≡ Some L → length (L ∷ but_last P) ≡ length P
 unfolding last but_last
 length-last_first [] L e = let z : ◌≡◌ {A = ℕ} 0 1 = cc in absurd (omega arith)
 length-last_first (r ∷ []) L e = refl
@@ -56,7 +55,7 @@ turned_lendable count P w n f =
     }
 
 module _ (count : ℕ) (P : Plane) (p : Lendable count P) where
-  last_first_below : (L : List Cell) → last P ≡ some L → RegionsBelow count (L ∷ but_last P)
+  last_first_below : (L : List Cell) → last P ≡ Some L → RegionsBelow count (L ∷ but_last P)
   last_first_below L e zero i r q = let w = last_row P L e in p.regions w.0 i r (rw w.1 q)
   last_first_below L e (suc row) i r q = but_below count P p.regions row i r q
 
@@ -65,8 +64,8 @@ module _ (count : ℕ) (P : Plane) (p : Lendable count P) where
   last_first_lendable = go (last P) refl
     where
       go : (r : Option (List Cell)) → last P ≡ r → Lendable count (turned (on_some r (λ L. L ∷ but_last P) []))
-      go none e = turned_lendable count [] (omega arith) (omega arith) (λ row i. crossing_below count)
-      go (some L) e =
+      go None e = turned_lendable count [] (omega arith) (omega arith) (λ row i. crossing_below count)
+      go (Some L) e =
           let w = last_row P L e in
           let s : length L ≤ plane_rows = rw w.1 at (p.short w.0) in
           turned_lendable count (L ∷ but_last P) s (omega (arith, length-last_first P L e, p.few)) (last_first_below L e)
@@ -86,7 +85,7 @@ policy_in_rows p =
     }
 
 module _ (text : ℕ → List ℕ) where
-  sheet-turned : (s : Sheet) (p : Policy) → sheet_policy none text s ≡ ok p → (s.orientation ≡ p.orientation) × (sheet_policy none text (in_rows s) ≡ ok (policy_in_rows p))
+  sheet-turned : (s : Sheet) (p : Policy) → sheet_policy None text s ≡ Ok p → (s.orientation ≡ p.orientation) × (sheet_policy None text (in_rows s) ≡ Ok (policy_in_rows p))
   unfolding sheet_policy
   sheet-turned s p e =
       let w = then_ok (clauses_of text s.plane s.rules) _ p e in
@@ -94,15 +93,15 @@ module _ (text : ℕ → List ℕ) where
       let c = w.1 in
       (cc, rw c (cc))
 
-  stated_turned : (P : Plane) (p : Policy) → Even P → stated_policy none text P ≡ ok p → p.orientation ≡ RulesAsColumns → stated_policy none text (turned (last_first P)) ≡ ok (policy_in_rows p)
+  stated_turned : (P : Plane) (p : Policy) → Even P → stated_policy None text P ≡ Ok p → p.orientation ≡ RulesAsColumns → stated_policy None text (turned (last_first P)) ≡ Ok (policy_in_rows p)
   unfolding stated_policy
   stated_turned P p even e o =
-      let w = then_ok (stated_sheet text P) (sheet_policy none text) p e in
+      let w = then_ok (stated_sheet text P) (sheet_policy None text) p e in
       let s = sheet-turned w.0 p w.2 in
       rw (turned_column_sheet text P w.0 even w.1 (s.0 ∙ o)) s.1
 
-pub turned-policy : (l : LentPlane) (t : TextPlane) (p : Policy) → lent_of l ≡ ok t → Even t.plane → lent_policy l ≡ ok p → p.orientation ≡ RulesAsColumns
-    → lent_policy (turned_plane l) ≡ ok (policy_in_rows p)
+pub turned-policy : (l : LentPlane) (t : TextPlane) (p : Policy) → lent_of l ≡ Ok t → Even t.plane → lent_policy l ≡ Ok p → p.orientation ≡ RulesAsColumns
+    → lent_policy (turned_plane l) ≡ Ok (policy_in_rows p)
 unfolding lent_policy
 turned-policy l t p h even e o =
     let w = lent_ok l t h in

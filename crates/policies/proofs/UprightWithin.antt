@@ -1,4 +1,5 @@
 -- The upright sheet of a plane within the limits is within them.
+use Rattle.std.specs.Prelude.{Ok}
 use mathlib.Core.Path.{◌≡◌, sym, subst}
 use mathlib.Core.List.{[], ◌∷◌, map}
 use Prim.Native.Nat.{ℕ, ◌≤◌}
@@ -6,7 +7,6 @@ use native.Mathlib.Omega.{arith}
 use lib.Dec.{ltb}
 use lib.ListN.{length, drop, length-drop, length-map}
 use borrow.Author.Tests.{ltb-true, ltb-false}
-use Rattle.lists.specs.Answer.{ok}
 use Rattle.lists.specs.Run.{run}
 use Rattle.lists.specs.Transpose.{width, transpose}
 use Rattle.lists.proofs.Tests.{by_flag}
@@ -61,7 +61,7 @@ turned-within P h =
           (λ z. let e : width P ≡ 0 = omega (arith, ltb-false 0 (width P) z) in rw e (omega arith));
     }
 
-pub upright-within : (o : Orientation) (P U : Plane) → upright_of o P ≡ ok U → Within P → Within U
+pub upright-within : (o : Orientation) (P U : Plane) → upright_of o P ≡ Ok U → Within P → Within U
 unfolding upright_of
 upright-within RulesAsRows P U e h = let z : map (drop 1) P ≡ U = cc in subst Within z (rest-within P h)
 upright-within RulesAsColumns P U e h = subst Within (sym (pivot_ok (but_last P) U e).0) (turned-within (but_last P) (but_within P h))

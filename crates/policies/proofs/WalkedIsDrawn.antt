@@ -1,13 +1,13 @@
 -- The policy by walks is the one that is drawn: the theorem `walked_is_drawn`.
+use Rattle.std.specs.Prelude.{Ok, Err, Result, ℕ, Some}
 use mathlib.Core.Bool.{Bool, true, false}
 use mathlib.Core.List.{List}
 use mathlib.Core.Logic.{◌↔◌}
-use mathlib.Core.Option.{some}
 use mathlib.Core.Path.{◌≡◌}
 use Prim.Native.Nat.{ℕ, ◌/◌}
 use lib.Dec.{ltb}
 use lib.ListN.{length}
-use Rattle.lists.specs.Answer.{ok, refused, ◌>>=◌, ◌>>◌, Below}
+use Rattle.lists.specs.Answer.{◌>>=◌, ◌>>◌, Below}
 use Rattle.lists.specs.Choose.{choose}
 use Rattle.lists.specs.Picture.{Picture}
 use Rattle.lists.proofs.AnswerLaws.{then_below}
@@ -27,8 +27,6 @@ use Rattle.step.specs.PlaneStep.{plane_by}
 use Rattle.step.proofs.WalkedIsDrawn.{plane_below}
 use Rattle.texts.specs.RegionText.{text_of, texts_of}
 use Rattle.utf8.specs.Utf8.{checked, on_text}
-use Rattle.utf8.specs.declared.Checked.{Checked}
-use Rattle.utf8.specs.declared.Checked.TheVariants.{Valid, Invalid}
 use Rattle.walks.specs.Frame.{FrameFinder, Kind, frame_of}
 use Rattle.walks.specs.Kinds as kind
 use Rattle.walks.specs.Sides.{by_sides}
@@ -56,8 +54,8 @@ module _ (f f' : FrameFinder) (b : FramesBelow f f') where
   unfolding named_by
   flag_below p w h row = go (ltb 0 row)
     where
-      go : (t : Bool) → Below (choose t (◌>>◌ (f kind.name p w h 0 0) (ok true)) (ok false)) (choose t (◌>>◌ (f' kind.name p w h 0 0) (ok true)) (ok false))
-      go true = then_below (f kind.name p w h 0 0) (f' kind.name p w h 0 0) (λ _. ok true) (λ _. ok true) (b.name p w h 0 0) (λ _ a e. e)
+      go : (t : Bool) → Below (choose t (◌>>◌ (f kind.name p w h 0 0) (Ok true)) (Ok false)) (choose t (◌>>◌ (f' kind.name p w h 0 0) (Ok true)) (Ok false))
+      go true = then_below (f kind.name p w h 0 0) (f' kind.name p w h 0 0) (λ _. Ok true) (λ _. Ok true) (b.name p w h 0 0) (λ _ a e. e)
       go false = λ a e. e
 
   outline_below : (p : Picture) (w h : ℕ) → Below (outline_by f p w h) (outline_by f' p w h)
@@ -80,14 +78,14 @@ module _ (f f' : FrameFinder) (b : FramesBelow f f') where
   unfolding sheet_by
   sheet_below s = go (checked s)
     where
-      go : (c : Checked) → Below (on_text c (λ at. refused (InvalidUtf8 at)) (drawing_by f (rows_at s 0))) (on_text c (λ at. refused (InvalidUtf8 at)) (drawing_by f' (rows_at s 0)))
-      go Valid = drawing_below (rows_at s 0)
-      go (Invalid at) = λ a e. e
+      go : (c : Result (Unit {0}) ℕ) → Below (on_text c (λ at. Err (InvalidUtf8 at)) (drawing_by f (rows_at s 0))) (on_text c (λ at. Err (InvalidUtf8 at)) (drawing_by f' (rows_at s 0)))
+      go (Ok tt) = drawing_below (rows_at s 0)
+      go (Err at) = λ a e. e
 
   texts_below : (text lines : Picture) (w h : ℕ) → Below (region_texts_by f text lines w h) (region_texts_by f' text lines w h)
   unfolding region_texts_by
   texts_below text lines w h =
-      let k : List Rect → Reading Regions = λ rs. ◌>>=◌ (texts_of text rs) (λ ts. ok (record { rects = rs; texts = ts })) in
+      let k : List Rect → Reading Regions = λ rs. ◌>>=◌ (texts_of text rs) (λ ts. Ok (record { rects = rs; texts = ts })) in
       then_below (regions_by (f kind.thin lines w h) lines w h) (regions_by (f' kind.thin lines w h) lines w h) k k
       (regions_below (f kind.thin lines w h) (f' kind.thin lines w h) (b.thin lines w h) lines w h) (λ rs a e. e)
 
@@ -95,14 +93,14 @@ module _ (f f' : FrameFinder) (b : FramesBelow f f') where
   unfolding text_plane_by
   text_plane_below o text thin grid w h =
       let found : FrameFinder → Regions → Reading Plane = λ d g. plane_by (d kind.grid grid w h) o g.rects grid w h in
-      let end : Regions → Plane → Reading TextPlane = λ g P. ok (record { plane = P; texts = g.texts }) in
+      let end : Regions → Plane → Reading TextPlane = λ g P. Ok (record { plane = P; texts = g.texts }) in
       then_below (region_texts_by f text thin w h) (region_texts_by f' text thin w h) (λ g. ◌>>=◌ (found f g) (end g)) (λ g. ◌>>=◌ (found f' g) (end g)) (texts_below text thin w h)
       (λ g. then_below (found f g) (found f' g) (end g) (end g)
       (plane_below (f kind.grid grid w h) (f' kind.grid grid w h) (b.grid grid w h) o g.rects grid w h) (λ P a e. e))
 
   name_below : (rs : List (List ℕ)) (t : Bool) → Below (name_by f rs t) (name_by f' rs t)
   name_below rs true =
-      let k : Rect → Reading Text = λ r. ok (some (text_of (text_layer rs) r)) in
+      let k : Rect → Reading Text = λ r. Ok (Some (text_of (text_layer rs) r)) in
       then_below (f kind.name (text_layer rs) (widest rs) (length rs) 0 0) (f' kind.name (text_layer rs) (widest rs) (length rs) 0 0) k k (b.name (text_layer rs) (widest rs) (length rs) 0 0) (λ r a e. e)
   name_below rs false = λ a e. e
 
@@ -135,5 +133,5 @@ sides_below =
       name = λ p w h x y. sides_walks kind.name p w h x y name-sound;
     }
 
-pub walked_is_drawn : (s : List ℕ) (p : Policy) → (walked_policy s ≡ ok p) ↔ (drawn_policy s ≡ ok p)
+pub walked_is_drawn : (s : List ℕ) (p : Policy) → (walked_policy s ≡ Ok p) ↔ (drawn_policy s ≡ Ok p)
 walked_is_drawn s p = (policy_below frame_of by_sides walks_below s p, policy_below by_sides frame_of sides_below s p)

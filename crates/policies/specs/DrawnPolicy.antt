@@ -1,7 +1,6 @@
 -- The policy that a drawing states: document 01, "The policy that a drawing states".
-use Rattle.std.specs.Prelude.{Bool, true, false, List, ℕ, length}
-use Rattle.std.proofs.Math.Option.{none, some}
-use Rattle.lists.specs.Answer.{ok, ◌>>=◌}
+use Rattle.std.specs.Prelude.{Bool, true, false, List, ℕ, length, None, Some, Ok}
+use Rattle.lists.specs.Answer.{◌>>=◌}
 use Rattle.model.specs.Refusals.{Reading}
 use Rattle.cells.specs.Plane.{TextPlane}
 use Rattle.record.specs.Policy.{Text, Policy}
@@ -26,8 +25,8 @@ module _ (find : FrameFinder) where
   abbrev pub name_by : List (List ℕ) → Bool → Reading Text
   name_by rs true = do
     f ← find kind.name (text_layer rs) (widest rs) (length rs) 0 0
-    ok (some (text_of (text_layer rs) f))
-  name_by rs false = ok none
+    Ok (Some (text_of (text_layer rs) f))
+  name_by rs false = Ok None
 
   unfoldable pub policy_by : List ℕ → Reading Policy
   policy_by s = do

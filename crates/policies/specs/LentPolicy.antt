@@ -1,6 +1,5 @@
 -- The policy that a lent plane states: document 01, "The policy that a drawing states".
-use Rattle.std.specs.Prelude.{List, [], ℕ, get_or}
-use Rattle.std.proofs.Math.Option.{none}
+use Rattle.std.specs.Prelude.{List, [], ℕ, get_or, None}
 use Rattle.lists.specs.Answer.{◌>>=◌}
 use Rattle.model.specs.Refusals.{Reading}
 use Rattle.cells.specs.Plane.{TextPlane}
@@ -16,4 +15,4 @@ text_in t k = get_or t.texts k []
 unfoldable pub lent_policy : LentPlane → Reading Policy
 lent_policy l = do
   t ← lent_of l
-  stated_policy none (text_in t) t.plane
+  stated_policy None (text_in t) t.plane

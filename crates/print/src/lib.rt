@@ -42,10 +42,8 @@ fn put_listed(out: &mut [u8], at: usize, text: &[u8]) -> usize
     ensures { Written out.old out.new at (listed text.now) (20 + 4 * length text.now) result }
 {
     let mut n = put_number(out, at, text.len() as u64);
-    let mut i = 0;
-    while i < text.len() {
-        n = put_byte(out, n, text[i]);
-        i += 1;
+    for &b in text {
+        n = put_byte(out, n, b);
     }
     n
 }

@@ -1,11 +1,11 @@
 -- The table of an upright sheet whose texts are spelled by slots.
+use Rattle.std.specs.Prelude.{Ok, Err, None}
 use mathlib.Core.Path.{◌≡◌, refl, sym, ap, ◌∙◌}
 use mathlib.Core.List.{List, ◌∷◌}
-use mathlib.Core.Option.{none}
 use Prim.Native.Nat.{ℕ, suc, ◌+◌, ◌-◌, ◌*◌, ◌≤◌, ◌<◌}
 use native.Mathlib.Omega.{arith}
 use lib.ListN.{length}
-use Rattle.lists.specs.Answer.{ok, refused, ◌>>=◌}
+use Rattle.lists.specs.Answer.{◌>>=◌}
 use Rattle.model.specs.Limits.{plane_rows}
 use Rattle.model.specs.Refusals.{Reading}
 use Rattle.model.specs.declared.Refusal.{Refusal}
@@ -30,7 +30,6 @@ use Rattle.writer.specs.SlotTexts.{texts_from}
 use Rattle.recognizer.specs.StatedPolicy.{sheet_policy, stated_policy}
 use Rattle.recognizer.specs.Told.{table_read, table_in, TableHeld}
 use Rattle.recognizer.specs.declared.SlotTable.{SlotTable}
-use Rattle.recognizer.specs.declared.Recognized.TheVariants.{Stands}
 
 -- a policy of what the clause rules give
 abbrev pub with : Text → Sheet → Clauses → Policy
@@ -52,24 +51,24 @@ with_texts_lem name s c = refl
 
 module _ (text : ℕ → List ℕ) (s : Sheet) (some : 0 < s.rules) where
   -- by the shape
-  pub by_shape : (name : Text) → sheet_policy name text s ≡ ◌>>=◌ (checked_shape s.plane s.rules) (λ f. ok (with name s (stated_by (found_as text s.plane f) s.rules)))
+  pub by_shape : (name : Text) → sheet_policy name text s ≡ ◌>>=◌ (checked_shape s.plane s.rules) (λ f. Ok (with name s (stated_by (found_as text s.plane f) s.rules)))
   unfolding sheet_policy
   by_shape name = rw (clauses_apart text s.plane s.rules some) (go (checked_shape s.plane s.rules))
     where
-      go : (m : Reading Shape) → ◌>>=◌ (◌>>=◌ m (λ f. ok (stated_by (found_as text s.plane f) s.rules))) (λ c. ok (with name s c))
-          ≡ ◌>>=◌ m (λ f. ok (with name s (stated_by (found_as text s.plane f) s.rules)))
-      go (ok f) = refl
-      go (refused r) = refl
+      go : (m : Reading Shape) → ◌>>=◌ (◌>>=◌ m (λ f. Ok (stated_by (found_as text s.plane f) s.rules))) (λ c. Ok (with name s c))
+          ≡ ◌>>=◌ m (λ f. Ok (with name s (stated_by (found_as text s.plane f) s.rules)))
+      go (Ok f) = refl
+      go (Err r) = refl
 
-  pub not_shaped : (r : Refusal) → refused r ≡ checked_shape s.plane s.rules → (name : Text) → refused r ≡ table_read (sheet_policy name text s)
+  pub not_shaped : (r : Refusal) → Err r ≡ checked_shape s.plane s.rules → (name : Text) → Err r ≡ table_read (sheet_policy name text s)
   not_shaped r e name = rw (by_shape name, ← e)
 
-  module _ (f : Shape) (e : ok f ≡ checked_shape s.plane s.rules) where
+  module _ (f : Shape) (e : Ok f ≡ checked_shape s.plane s.rules) where
     abbrev pub stated : Clauses
     stated = stated_by (found_as text s.plane f) s.rules
 
     -- the policy that a sheet of a shape states
-    pub shaped : (name : Text) → sheet_policy name text s ≡ ok (with name s stated)
+    pub shaped : (name : Text) → sheet_policy name text s ≡ Ok (with name s stated)
     shaped name = by_shape name ∙ rw (← e)
 
     pub complete : (name : Text) → Complete (with name s stated)
@@ -95,8 +94,8 @@ module _ (text : ℕ → List ℕ) (s : Sheet) (some : 0 < s.rules) where
     counted : 1 + length (spelled text s.plane f s.rules) ≡ slot_count f.inputs f.outputs f.notes.count s.rules
     counted =
         let c = counted_stated text s.plane s.rules f in
-        let n = texts-counted (with none s stated) (complete none) in
-        let m : length (slot_texts (with none s stated)) ≡ suc (length (spelled text s.plane f s.rules)) = ap length (with_texts_lem none s stated) ∙ ap (λ (l : List Text). suc (length l)) texts-spelled in
+        let n = texts-counted (with None s stated) (complete None) in
+        let m : length (slot_texts (with None s stated)) ≡ suc (length (spelled text s.plane f s.rules)) = ap length (with_texts_lem None s stated) ∙ ap (λ (l : List Text). suc (length l)) texts-spelled in
         omega (arith, m) ∙ sym m ∙ n ∙ rw (c.0, c.1, c.2, c.3)
 
     module _ {bytes d o : List ℕ} {to : Filled} (p : Spelt bytes d o (record { slot = 1; bytes = 0 }) to (spelled text s.plane f s.rules)) where
@@ -106,7 +105,7 @@ module _ (text : ℕ → List ℕ) (s : Sheet) (some : 0 < s.rules) where
       spelt : texts_from bytes o 1 (to.slot - 1) ≡ spelled text s.plane f s.rules
       spelt = rw behind p.texts
 
-      pub stands : (name : Text) → table_in name (Stands (table_as to.slot to.bytes)) bytes o ≡ table_read (sheet_policy name text s)
+      pub stands : (name : Text) → table_in name (Ok (table_as to.slot to.bytes)) bytes o ≡ table_read (sheet_policy name text s)
       stands name =
           let c = counted_stated text s.plane s.rules f in
           rw (shaped name, with_texts_lem name s stated, texts-spelled, spelt, c.0, c.1, c.2, c.3)
@@ -125,10 +124,10 @@ module _ (text : ℕ → List ℕ) (s : Sheet) (some : 0 < s.rules) where
 
 -- from the upright sheet to its plane
 module _ (text : ℕ → List ℕ) (P : Plane) (name : Text) where
-  pub not_stated : (r : Refusal) → refused r ≡ stated_sheet text P → refused r ≡ table_read (stated_policy name text P)
+  pub not_stated : (r : Refusal) → Err r ≡ stated_sheet text P → Err r ≡ table_read (stated_policy name text P)
   unfolding stated_policy
   not_stated r e = rw (← e)
 
-  pub stated_sheet_lem : (s : Sheet) → ok s ≡ stated_sheet text P → table_read (sheet_policy name text s) ≡ table_read (stated_policy name text P)
+  pub stated_sheet_lem : (s : Sheet) → Ok s ≡ stated_sheet text P → table_read (sheet_policy name text s) ≡ table_read (stated_policy name text P)
   unfolding stated_policy
   stated_sheet_lem s e = rw (← e)

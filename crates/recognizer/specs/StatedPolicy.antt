@@ -1,6 +1,6 @@
 -- The policy that a plane states: document 01, "The policy that a drawing states".
-use Rattle.std.specs.Prelude.{List, ℕ}
-use Rattle.lists.specs.Answer.{ok, ◌>>=◌}
+use Rattle.std.specs.Prelude.{List, ℕ, Ok}
+use Rattle.lists.specs.Answer.{◌>>=◌}
 use Rattle.model.specs.Refusals.{Reading}
 use Rattle.cells.specs.Plane.{Plane}
 use Rattle.record.specs.Policy.{Text, Policy}
@@ -13,7 +13,7 @@ module _ (name : Text) (text : ℕ → List ℕ) where
   unfoldable pub sheet_policy : Sheet → Reading Policy
   sheet_policy s = do
     c ← clauses_of text s.plane s.rules
-    ok (record {
+    Ok (record {
       name = name;
       hit = s.policy;
       orientation = s.orientation;

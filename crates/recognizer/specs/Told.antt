@@ -1,6 +1,6 @@
 -- What recognizing a plane answers, with the slices that hold its texts.
-use Rattle.std.specs.Prelude.{List, ◌∷◌, ◌≡◌, ℕ, ◌+◌, ◌-◌, ◌*◌, ◌≤◌, ◌<◌, length}
-use Rattle.lists.specs.Answer.{ok, refused, ◌>>=◌}
+use Rattle.std.specs.Prelude.{List, ◌∷◌, ◌≡◌, ℕ, ◌+◌, ◌-◌, ◌*◌, ◌≤◌, ◌<◌, length, Ok, Err}
+use Rattle.lists.specs.Answer.{◌>>=◌}
 use Rattle.model.specs.Limits.{plane_rows, plane_size, text_bytes}
 use Rattle.model.specs.Policies.{policy_number, orientation_number}
 use Rattle.model.specs.Refusals.{Reading}
@@ -10,19 +10,17 @@ use Rattle.record.specs.Record.{Table, packed, slot_count, table_of}
 use Rattle.record.specs.Slots.{offset_at, length_at, slot_limit}
 use Rattle.writer.specs.SlotTexts.{texts_from}
 use Rattle.recognizer.specs.declared.SlotTable.{SlotTable}
-use Rattle.recognizer.specs.declared.Recognized.{Recognized}
-use Rattle.recognizer.specs.declared.Recognized.TheVariants.{Stands, NotRecognized}
 
 -- a policy's table, if it is not refused
 abbrev pub table_read : Reading Policy → Reading Table
 table_read m = do
   p ← m
-  ok (table_of p)
+  Ok (table_of p)
 
 -- an answer's table: its numbers, and the texts of its slots behind a name
-abbrev pub table_in : Text → Recognized → List ℕ → List ℕ → Reading Table
-table_in name (Stands t) bytes d =
-    ok (record {
+abbrev pub table_in : Text → Reading SlotTable → List ℕ → List ℕ → Reading Table
+table_in name (Ok t) bytes d =
+    Ok (record {
       policy = policy_number t.policy;
       orientation = orientation_number t.orientation;
       inputs = t.inputs;
@@ -31,7 +29,7 @@ table_in name (Stands t) bytes d =
       rules = t.rules;
       texts = name ∷ texts_from bytes d 1 (t.slots - 1);
     })
-table_in name (NotRecognized r) bytes d = refused r
+table_in name (Err r) bytes d = Err r
 
 -- the slots of a table, the name's among them, and the bytes of their texts without the name
 pub record TableHeld (t : SlotTable) (bytes d : List ℕ) : Type 0 where
@@ -42,9 +40,9 @@ pub record TableHeld (t : SlotTable) (bytes d : List ℕ) : Type 0 where
   pub light : t.bytes ≤ t.slots * text_bytes
   pub inside : (i : ℕ) → 1 ≤ i → i < t.slots → offset_at d i + length_at d i ≤ length bytes
 
-abbrev pub RecognizedHeld : Recognized → List ℕ → List ℕ → Type 0
-RecognizedHeld (Stands t) bytes d = TableHeld t bytes d
-RecognizedHeld (NotRecognized r) bytes d = Unit {0}
+abbrev pub RecognizedHeld : Reading SlotTable → List ℕ → List ℕ → Type 0
+RecognizedHeld (Ok t) bytes d = TableHeld t bytes d
+RecognizedHeld (Err r) bytes d = Unit {0}
 
 -- the slices that are handed over: a plane with its texts, and room for the upright sheet and the slots
 pub record WorkRoom (d : List ℕ) (n : ℕ) (bytes spans : List ℕ) (count : ℕ) (upright slots : List ℕ) : Type 0 where

@@ -10,9 +10,9 @@ ghost use Rattle.slot_runs.specs.Spelt.{Texts};
 ghost use Rattle.recognizer.specs.StatedPolicy.{sheet_policy, stated_policy};
 ghost use Rattle.recognizer.specs.Told.{table_in, table_read, RecognizedHeld, WorkRoom};
 
-use clauses::{Shape, Shaped};
+use clauses::Shape;
 use model::{HitPolicy, Orientation, Refusal};
-use plane::{Stated, StatedSheet};
+use plane::Stated;
 
 // The numbers of a table, its slots with the name's, and the bytes of its texts without the name.
 #[derive(Clone, Copy)]
@@ -27,12 +27,6 @@ pub struct SlotTable {
     pub bytes: usize,
 }
 
-#[derive(Clone, Copy)]
-pub enum Recognized {
-    Stands(SlotTable),
-    NotRecognized(Refusal),
-}
-
 // The table of an upright sheet; its texts go into the slots from 1 on.
 fn recognize_sheet(
     upright: &[u32],
@@ -41,22 +35,19 @@ fn recognize_sheet(
     spans: &[u32],
     count: usize,
     slots: &mut [u32],
-) -> Recognized
+) -> Result<SlotTable, Refusal>
     requires { Texts upright.now s.rows bytes.now spans.now count × (3 * slot_limit ≤ length slots.old) × (0 < s.rules) }
     ensures table { (name : Text) → table_in name result bytes.now slots.new ≡ table_read (sheet_policy name (text_in bytes.now spans.now count) (record { orientation = s.orientation; policy = s.policy; rules = s.rules; plane = plane_in upright.now s.rows })) }
     ensures held { RecognizedHeld result bytes.now slots.new }
     ensures name { (j : ℕ) → j < 3 → get_or slots.new j 0 ≡ get_or slots.old j 0 }
 {
-    let f = match clauses::checked_shape(upright, s.rows, s.rules) {
-        Shaped::Has(f) => f,
-        Shaped::NotShaped(r) => return Recognized::NotRecognized(r),
-    };
+    let f = clauses::checked_shape(upright, s.rows, s.rules)?;
     let rules = s.rules as usize;
     let e = slots::fill(upright, s.rows, bytes, spans, count, slots, f, rules);
     let policy = s.policy;
     let orientation = s.orientation;
     let notes = f.notes;
-    Recognized::Stands(SlotTable {
+    Ok(SlotTable {
         policy,
         orientation,
         inputs: f.inputs,
@@ -77,14 +68,12 @@ pub fn recognize(
     count: usize,
     upright: &mut [u32],
     slots: &mut [u32],
-) -> Recognized
+) -> Result<SlotTable, Refusal>
     requires { WorkRoom plane.now n bytes.now spans.now count upright.old slots.old }
     ensures table { (name : Text) → table_in name result bytes.now slots.new ≡ table_read (stated_policy name (text_in bytes.now spans.now count) (plane_in plane.now n)) }
     ensures held { RecognizedHeld result bytes.now slots.new }
     ensures name { (j : ℕ) → j < 3 → get_or slots.new j 0 ≡ get_or slots.old j 0 }
 {
-    match plane::upright_sheet(plane, n, bytes, spans, count, upright) {
-        StatedSheet::Upright(s) => recognize_sheet(upright, s, bytes, spans, count, slots),
-        StatedSheet::NotStated(r) => Recognized::NotRecognized(r),
-    }
+    let s = plane::upright_sheet(plane, n, bytes, spans, count, upright)?;
+    recognize_sheet(upright, s, bytes, spans, count, slots)
 }

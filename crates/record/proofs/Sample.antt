@@ -1,7 +1,7 @@
 -- The sheet of document 01, "Table record", and its record, by computation.
+use Rattle.std.specs.Prelude.{None, Some}
 use mathlib.Core.Path.{◌≡◌, refl}
 use mathlib.Core.List.{List, [], ◌∷◌, ◌++◌}
-use mathlib.Core.Option.{none, some}
 use Prim.Native.Nat.{ℕ}
 use lib.ListN.{length, take, drop}
 use Rattle.model.specs.declared.HitPolicy.TheVariants.{Unique}
@@ -29,14 +29,14 @@ amount = 0x31 ∷ 0x32 ∷ 0x30 ∷ []
 abbrev pub sample : Policy
 sample =
     record {
-      name = none;
+      name = None;
       hit = Unique;
       orientation = RulesAsRows;
-      label = some fare;
-      inputs = input (some zone) none ∷ [];
-      outputs = output (some fare) none none ∷ [];
+      label = Some fare;
+      inputs = input (Some zone) None ∷ [];
+      outputs = output (Some fare) None None ∷ [];
       annotations = [];
-      rules = rule (some quoted_a ∷ []) (some amount ∷ []) [] ∷ [];
+      rules = rule (Some quoted_a ∷ []) (Some amount ∷ []) [] ∷ [];
     }
 
 pub total_130 : total (table_of sample) ≡ 130

@@ -1,4 +1,5 @@
 -- The writer's steps for words, header and slots: what they leave in the slice, and what its loop keeps.
+use Rattle.std.specs.Prelude.{Ok, Err}
 use mathlib.Core.Path.{◌≡◌, refl, sym, ◌∙◌}
 use mathlib.Core.List.{List, [], ◌∷◌, ◌++◌}
 use Prim.Native.Nat.{ℕ, ◌+◌, ◌*◌, ◌≤◌, ◌<◌}
@@ -10,16 +11,15 @@ use borrow.Author.Tests.{lt-ltb, le-ltb}
 use Rattle.lists.specs.Put.{put}
 use Rattle.lists.proofs.PutLaws.{put_nil, put_next}
 use Rattle.model.specs.declared.Refusal.TheVariants.{OutputSliceShort}
-use Rattle.record.specs.declared.Begun.TheVariants.{Record, NotWritten}
 use Rattle.record.specs.Record.{word, words}
 use Rattle.record.specs.Written.{begun_of, headed}
 use Rattle.record.proofs.Words.{length-words, words_append}
 
 -- the header, or nothing where the slice is too short for all of the record
-pub begin_short : (d : List ℕ) (t : ℕ) (ws : List ℕ) → length d < t → (NotWritten (OutputSliceShort t) ≡ begun_of (length d) t) × (d ≡ headed d t ws)
+pub begin_short : (d : List ℕ) (t : ℕ) (ws : List ℕ) → length d < t → (Err (OutputSliceShort t) ≡ begun_of (length d) t) × (d ≡ headed d t ws)
 begin_short d t ws h = rw (lt-ltb (length d) t h) (refl, refl)
 
-pub begin_whole : (d x : List ℕ) (t : ℕ) (ws : List ℕ) → t ≤ length d → x ≡ put d 0 (words ws) → (Record t ≡ begun_of (length d) t) × (x ≡ headed d t ws)
+pub begin_whole : (d x : List ℕ) (t : ℕ) (ws : List ℕ) → t ≤ length d → x ≡ put d 0 (words ws) → (Ok t ≡ begun_of (length d) t) × (x ≡ headed d t ws)
 begin_whole d x t ws h e = rw (le-ltb (length d) t h) (refl, e)
 
 -- two words, one behind the other

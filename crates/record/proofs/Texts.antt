@@ -1,7 +1,7 @@
 -- Laws of slots and packed texts: their lengths, one run behind another, and that together they give the texts.
+use Rattle.std.specs.Prelude.{None, Some}
 use mathlib.Core.Path.{◌≡◌, refl, sym, ap, ◌∙◌}
 use mathlib.Core.List.{List, [], ◌∷◌, ◌++◌, append_assoc, append-nil}
-use mathlib.Core.Option.{none, some}
 use Prim.Native.Nat.{ℕ, suc, ◌+◌, ◌*◌, ◌^◌, ◌<◌, ◌≤◌}
 use native.Mathlib.Nat.{add_assoc, add-zero, suc-mul}
 use native.Mathlib.Omega.{arith}
@@ -15,8 +15,8 @@ use Rattle.record.proofs.Words.{word_inj, word-rest}
 pub length-slots : (o : ℕ) (ts : List Text) → length (slots_of o ts) ≡ 8 * length ts
 unfolding slots_of
 length-slots o [] = refl
-length-slots o (none ∷ ts) = omega (arith, length-slots (o + 0) ts)
-length-slots o (some t ∷ ts) = omega (arith, length-slots (o + length t) ts)
+length-slots o (None ∷ ts) = omega (arith, length-slots (o + 0) ts)
+length-slots o (Some t ∷ ts) = omega (arith, length-slots (o + length t) ts)
 
 pub packed-append : (ts us : List Text) → packed (ts ++ us) ≡ packed ts ++ packed us
 unfolding packed
@@ -26,7 +26,7 @@ packed-append (t ∷ ts) us = rw (packed-append ts us) (sym (append_assoc (bytes
 pub length-packed : (ts us : List Text) → length (packed (ts ++ us)) ≡ length (packed ts) + length (packed us)
 length-packed ts us = ap length (packed-append ts us) ∙ length-append (packed ts) (packed us)
 
-pub packed_one : (b : List ℕ) → length (packed (some b ∷ [])) ≡ length b
+pub packed_one : (b : List ℕ) → length (packed (Some b ∷ [])) ≡ length b
 unfolding packed
 packed_one b = rw (append-nil b)
 
@@ -39,7 +39,7 @@ slots-append o (t ∷ ts) us =
     (sym (append_assoc (slot_of o t) (slots_of (o + length (bytes_of t)) ts) _))
 
 -- texts of at most m bytes each
-pub packed_most : (m : ℕ) (ts : List Text) → ((i : ℕ) → i < length ts → length (bytes_of (get_or ts i none)) ≤ m) → length (packed ts) ≤ length ts * m
+pub packed_most : (m : ℕ) (ts : List Text) → ((i : ℕ) → i < length ts → length (bytes_of (get_or ts i None)) ≤ m) → length (packed ts) ≤ length ts * m
 unfolding packed
 packed_most m [] h = omega arith
 packed_most m (t ∷ ts) h =
@@ -52,15 +52,15 @@ pub texts_inj : (o : ℕ) (ts us : List Text) → 0 < o → o + length (packed t
     → slots_of o ts ≡ slots_of o us → packed ts ≡ packed us → ts ≡ us
 unfolding slots_of packed
 texts_inj o [] [] pos ht hu es ep = refl
-texts_inj o [] (none ∷ us) pos ht hu es ep = absurd (omega (arith, ap length es))
-texts_inj o [] (some u ∷ us) pos ht hu es ep = absurd (omega (arith, ap length es))
-texts_inj o (none ∷ ts) [] pos ht hu es ep = absurd (omega (arith, ap length es))
-texts_inj o (some t ∷ ts) [] pos ht hu es ep = absurd (omega (arith, ap length es))
-texts_inj o (none ∷ ts) (none ∷ us) pos ht hu es ep =
-    ap (λ (l : List Text). none ∷ l) (texts_inj (o + 0) ts us (omega arith) (omega arith) (omega arith) (cc) ep)
-texts_inj o (none ∷ ts) (some u ∷ us) pos ht hu es ep = absurd (omega (arith, word_inj 0 o _ _ (omega arith) (omega arith) es))
-texts_inj o (some t ∷ ts) (none ∷ us) pos ht hu es ep = absurd (omega (arith, word_inj o 0 _ _ (omega arith) (omega arith) es))
-texts_inj o (some t ∷ ts) (some u ∷ us) pos ht hu es ep =
+texts_inj o [] (None ∷ us) pos ht hu es ep = absurd (omega (arith, ap length es))
+texts_inj o [] (Some u ∷ us) pos ht hu es ep = absurd (omega (arith, ap length es))
+texts_inj o (None ∷ ts) [] pos ht hu es ep = absurd (omega (arith, ap length es))
+texts_inj o (Some t ∷ ts) [] pos ht hu es ep = absurd (omega (arith, ap length es))
+texts_inj o (None ∷ ts) (None ∷ us) pos ht hu es ep =
+    ap (λ (l : List Text). None ∷ l) (texts_inj (o + 0) ts us (omega arith) (omega arith) (omega arith) (cc) ep)
+texts_inj o (None ∷ ts) (Some u ∷ us) pos ht hu es ep = absurd (omega (arith, word_inj 0 o _ _ (omega arith) (omega arith) es))
+texts_inj o (Some t ∷ ts) (None ∷ us) pos ht hu es ep = absurd (omega (arith, word_inj o 0 _ _ (omega arith) (omega arith) es))
+texts_inj o (Some t ∷ ts) (Some u ∷ us) pos ht hu es ep =
     let lt = length-append t (packed ts) in
     let lu = length-append u (packed us) in
     let l : length t ≡ length u = word_inj (length t) (length u) _ _ (omega arith) (omega arith) (word-rest o o _ _ es) in

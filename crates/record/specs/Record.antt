@@ -1,6 +1,5 @@
 -- The table record: document 01, "Table record".
-use Rattle.std.specs.Prelude.{List, [], ◌∷◌, ◌++◌, ℕ, ◌+◌, ◌*◌, ◌/◌, ◌%◌, length}
-use Rattle.std.proofs.Math.Option.{none, some}
+use Rattle.std.specs.Prelude.{List, [], ◌∷◌, ◌++◌, ℕ, ◌+◌, ◌*◌, ◌/◌, ◌%◌, length, None, Some}
 use Rattle.model.specs.Policies.{policy_number, orientation_number}
 use Rattle.record.specs.Policy.{Text, Input, input, Output, output, Rule, rule, Policy}
 
@@ -24,13 +23,13 @@ words (w ∷ ws) = word w ++ words ws
 
 -- the bytes that a text takes
 abbrev pub bytes_of : Text → List ℕ
-bytes_of none = []
-bytes_of (some t) = t
+bytes_of None = []
+bytes_of (Some t) = t
 
 -- a text's slot at the running offset o: absent is 0, 0; a present empty text has its offset
 abbrev pub slot_of : ℕ → Text → List ℕ
-slot_of o none = word 0 ++ word 0
-slot_of o (some t) = word o ++ word (length t)
+slot_of o None = word 0 ++ word 0
+slot_of o (Some t) = word o ++ word (length t)
 
 -- all texts, packed without gaps
 unfoldable pub packed : List Text → List ℕ

@@ -1,16 +1,15 @@
 -- What a record slice holds while a record is written to it, and what beginning a record answers.
-use Rattle.std.specs.Prelude.{List, ℕ, ◌+◌, ◌*◌, ltb, length, take}
+use Rattle.std.specs.Prelude.{List, ℕ, ◌+◌, ◌*◌, ltb, length, take, Ok, Err}
 use Rattle.lists.specs.Choose.{choose}
 use Rattle.lists.specs.Put.{put}
 use Rattle.model.specs.declared.Refusal.TheVariants.{OutputSliceShort}
+use Rattle.model.specs.Refusals.{Reading}
 use Rattle.record.specs.Policy.{Text}
 use Rattle.record.specs.Record.{Table, words, head_words, slots_of, packed, slot_offset, text_offset, slots_in}
-use Rattle.record.specs.declared.Begun.{Begun}
-use Rattle.record.specs.declared.Begun.TheVariants.{Record, NotWritten}
 
 -- a slice of n bytes for a record of t: number 27 where it is too short
-abbrev pub begun_of : ℕ → ℕ → Begun
-begun_of n t = choose (ltb n t) (NotWritten (OutputSliceShort t)) (Record t)
+abbrev pub begun_of : ℕ → ℕ → Reading ℕ
+begun_of n t = choose (ltb n t) (Err (OutputSliceShort t)) (Ok t)
 
 -- the slice d afterwards: as it was, or with the ten words ws in front
 abbrev pub headed : List ℕ → ℕ → List ℕ → List ℕ

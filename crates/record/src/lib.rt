@@ -8,7 +8,7 @@ ghost use Rattle.record.specs.Written.{begun_of, headed};
 
 use model::Refusal;
 
-// A slot's kinds in a work slice.
+// A slot's kinds in a work slice: numbers, since the slice is the caller's and its size is fixed.
 pub const ABSENT: u32 = 0;
 
 pub const PART: u32 = 1;
@@ -22,13 +22,6 @@ pub struct Head {
     pub outputs: u32,
     pub annotations: u32,
     pub rules: u32,
-}
-
-// A record of so many bytes is begun, or the slice is too short for it.
-#[derive(Clone, Copy)]
-pub enum Begun {
-    Record(usize),
-    NotWritten(Refusal),
 }
 
 // The word w, from index at on.
@@ -47,15 +40,13 @@ fn put_words(out: &mut [u8], at: usize, ws: &[u32])
     requires { at + 4 * length ws.now ≤ length out.old }
     ensures { out.new ≡ put out.old at (words ws.now) }
 {
-    let mut i = 0;
-    while i < ws.len() {
+    for i in 0..ws.len() {
         put_word(out, at + 4 * i, ws[i]);
-        i += 1;
     }
 }
 
 // Begins a record of so many slots and bytes of text: its ten words, if the slice is long enough for all of it.
-pub fn begin_record(out: &mut [u8], h: Head, slots: usize, bytes: usize) -> Begun
+pub fn begin_record(out: &mut [u8], h: Head, slots: usize, bytes: usize) -> Result<usize, Refusal>
     requires { text_offset slots + bytes < 2 ^ 32 }
     ensures value { result ≡ begun_of (length out.old) (text_offset slots + bytes) }
     ensures out_after { out.new ≡ headed out.old (text_offset slots + bytes) ((text_offset slots + bytes) ∷ h.policy ∷ h.orientation ∷ h.inputs ∷ h.outputs ∷ h.annotations ∷ h.rules ∷ slot_offset ∷ slots ∷ text_offset slots ∷ []) }
@@ -63,7 +54,7 @@ pub fn begin_record(out: &mut [u8], h: Head, slots: usize, bytes: usize) -> Begu
     let first = 40 + 8 * slots;
     let total = first + bytes;
     if out.len() < total {
-        return Begun::NotWritten(Refusal::OutputSliceShort(total));
+        return Err(Refusal::OutputSliceShort(total));
     }
     let ws = [
         total as u32,
@@ -78,7 +69,7 @@ pub fn begin_record(out: &mut [u8], h: Head, slots: usize, bytes: usize) -> Begu
         first as u32,
     ];
     put_words(out, 0, &ws);
-    Begun::Record(total)
+    Ok(total)
 }
 
 // The slot of a text of n bytes that stands at an offset.

@@ -1,8 +1,8 @@
 -- Laws of plain slots, which are absent or a part of the texts: their texts, a run of them, and where it stops.
+use Rattle.std.specs.Prelude.{None, Some}
 use mathlib.Core.Path.{◌≡◌, refl, ap}
 use mathlib.Core.List.{List, [], ◌∷◌}
 use mathlib.Core.Logic.{⊎_elim}
-use mathlib.Core.Option.{none, some}
 use Prim.Native.Nat.{ℕ, zero, suc, ◌+◌, ◌-◌, ◌≤◌, ◌<◌}
 use native.Mathlib.Nat.{eq-or-lt_of_le}
 use native.Mathlib.Numerals.{add-one}
@@ -18,15 +18,15 @@ use Rattle.record_texts.specs.PlainSlots.{of_kind, text_at, plain_slots, plain_t
 
 -- the text of an absent slot, and of a part
 module _ (s d : List ℕ) (i : ℕ) where
-  pub absent_text : kind_at d i ≡ 0 → text_at s d i ≡ none
+  pub absent_text : kind_at d i ≡ 0 → text_at s d i ≡ None
   unfolding text_at
   absent_text e = ap (λ (k : ℕ). of_kind k (part_at s d i)) e
 
-  pub present-text : (kind_at d i ≡ 0 → ⊥) → text_at s d i ≡ some (part_at s d i)
+  pub present-text : (kind_at d i ≡ 0 → ⊥) → text_at s d i ≡ Some (part_at s d i)
   unfolding text_at
   present-text h = go (kind_at d i) h
     where
-      go : (k : ℕ) → (k ≡ 0 → ⊥) → of_kind k (part_at s d i) ≡ some (part_at s d i)
+      go : (k : ℕ) → (k ≡ 0 → ⊥) → of_kind k (part_at s d i) ≡ Some (part_at s d i)
       go zero f = absurd (f refl)
       go (suc k) f = refl
 

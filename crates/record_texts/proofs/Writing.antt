@@ -1,8 +1,8 @@
 -- Writing a record: what a caller that drives the writer needs.
+use Rattle.std.specs.Prelude.{Ok, Err, None, Some}
 use mathlib.Core.Path.{◌≡◌, refl, sym, ap, ◌∙◌}
 use mathlib.Core.Bool.{Bool, true, false}
 use mathlib.Core.List.{List, [], ◌∷◌, ◌++◌, append_assoc, append-nil}
-use mathlib.Core.Option.{none, some}
 use Prim.Native.Nat.{ℕ, ◌+◌, ◌*◌, ◌^◌, ◌<◌, ◌≤◌}
 use native.Mathlib.Omega.{arith}
 use lib.Dec.{ltb}
@@ -16,7 +16,6 @@ use Rattle.model.specs.declared.Refusal.{Refusal}
 use Rattle.model.specs.declared.Refusal.TheVariants.{OutputSliceShort}
 use Rattle.record.specs.Policy.{Text}
 use Rattle.record.specs.Record.{Table, words, slot_of, packed, slots_of, slot_offset, text_offset, slots_in, total, head_words, encode}
-use Rattle.record.specs.declared.Begun.TheVariants.{Record, NotWritten}
 use Rattle.record.specs.Written.{begun_of, headed, with_texts, written_to}
 use Rattle.record.proofs.Words.{length-words}
 use Rattle.record.proofs.Texts.{length-slots, packed-append, length-packed, packed_one, slots-append}
@@ -27,11 +26,11 @@ pub with_none : (d : List ℕ) (i o : ℕ) → with_texts d i o [] ≡ d
 unfolding with_texts slots_of packed
 with_none d i o = put_nil (put d (slot_offset + 8 * i) []) o ∙ put_nil d (slot_offset + 8 * i)
 
-pub with_absent : (d : List ℕ) (i o : ℕ) → with_texts d i o (none ∷ []) ≡ put d (slot_offset + 8 * i) (slot_of 0 none)
+pub with_absent : (d : List ℕ) (i o : ℕ) → with_texts d i o (None ∷ []) ≡ put d (slot_offset + 8 * i) (slot_of 0 None)
 unfolding with_texts slots_of packed
-with_absent d i o = put_nil (put d (slot_offset + 8 * i) (slot_of 0 none)) o
+with_absent d i o = put_nil (put d (slot_offset + 8 * i) (slot_of 0 None)) o
 
-pub with_present : (d : List ℕ) (i o : ℕ) (b : List ℕ) → with_texts d i o (some b ∷ []) ≡ put (put d (slot_offset + 8 * i) (slot_of o (some b))) o b
+pub with_present : (d : List ℕ) (i o : ℕ) (b : List ℕ) → with_texts d i o (Some b ∷ []) ≡ put (put d (slot_offset + 8 * i) (slot_of o (Some b))) o b
 unfolding with_texts slots_of packed
 with_present d i o b = rw (append-nil b)
 
@@ -67,7 +66,7 @@ module _ (d : List ℕ) (i o : ℕ) (ts : List Text) (room : o + length (packed 
       rw (sn, packed-append ts us) (rw one two)
 
 -- where a present text fits
-pub text-fits : (b : List ℕ) (c i o n : ℕ) → i < c → Fits (some b ∷ []) c i o n
+pub text-fits : (b : List ℕ) (c i o n : ℕ) → i < c → Fits (Some b ∷ []) c i o n
     → (slot_offset + 8 * i + 8 ≤ o) × (o + length b ≤ n) × (o + length b < 2 ^ 32)
 text-fits b c i o n h f =
     let l = packed_one b in
@@ -75,17 +74,17 @@ text-fits b c i o n h f =
 
 -- what beginning a record answers
 module _ (n t : ℕ) where
-  pub begun_whole : (k : ℕ) → begun_of n t ≡ Record k → (t ≤ n) × (k ≡ t)
+  pub begun_whole : (k : ℕ) → begun_of n t ≡ Ok k → (t ≤ n) × (k ≡ t)
   begun_whole k = go (ltb n t) refl
     where
-      go : (b : Bool) → ltb n t ≡ b → choose b (NotWritten (OutputSliceShort t)) (Record t) ≡ Record k → (t ≤ n) × (k ≡ t)
+      go : (b : Bool) → ltb n t ≡ b → choose b (Err (OutputSliceShort t)) (Ok t) ≡ Ok k → (t ≤ n) × (k ≡ t)
       go true h e = let z : ◌≡◌ {A = ℕ} 0 1 = cc in absurd (omega arith)
       go false h e = (ltb-false n t h, cc)
 
-  pub begun_short : (r : Refusal) → begun_of n t ≡ NotWritten r → (n < t) × (r ≡ OutputSliceShort t)
+  pub begun_short : (r : Refusal) → begun_of n t ≡ Err r → (n < t) × (r ≡ OutputSliceShort t)
   begun_short r = go (ltb n t) refl
     where
-      go : (b : Bool) → ltb n t ≡ b → choose b (NotWritten (OutputSliceShort t)) (Record t) ≡ NotWritten r → (n < t) × (r ≡ OutputSliceShort t)
+      go : (b : Bool) → ltb n t ≡ b → choose b (Err (OutputSliceShort t)) (Ok t) ≡ Err r → (n < t) × (r ≡ OutputSliceShort t)
       go true h e = (ltb-true n t h, cc)
       go false h e = let z : ◌≡◌ {A = ℕ} 0 1 = cc in absurd (omega arith)
 

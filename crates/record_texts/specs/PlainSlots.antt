@@ -1,6 +1,5 @@
 -- Plain slots of a work slice, which are absent or a part of the texts: their texts, and where they fit a record slice.
-use Rattle.std.specs.Prelude.{List, ℕ, zero, suc, ◌+◌, ◌-◌, ◌*◌, ◌^◌, ◌≤◌, ◌<◌, ◌≡◌, ltb, length}
-use Rattle.std.proofs.Math.Option.{none, some}
+use Rattle.std.specs.Prelude.{List, ℕ, zero, suc, ◌+◌, ◌-◌, ◌*◌, ◌^◌, ◌≤◌, ◌<◌, ◌≡◌, ltb, length, None, Some}
 use Rattle.lists.specs.Run.{run}
 use Rattle.lists.specs.Choose.{choose}
 use Rattle.record.specs.Policy.{Text}
@@ -9,8 +8,8 @@ use Rattle.record.specs.Slots.{kind_at, offset_at, length_at, part_at, slot_limi
 
 -- the text of slot i, where it is absent or a part of the texts s
 abbrev pub of_kind : ℕ → List ℕ → Text
-of_kind zero b = none
-of_kind (suc k) b = some b
+of_kind zero b = None
+of_kind (suc k) b = Some b
 
 unfoldable pub text_at : List ℕ → List ℕ → ℕ → Text
 text_at s d i = of_kind (kind_at d i) (part_at s d i)

@@ -2,7 +2,6 @@
 #![tactic(auto)]
 
 ghost use Rattle.std.specs.Prelude.{[], ◌∷◌, ◌≡◌, ◌+◌, ◌-◌, ◌*◌, ◌<◌, ◌≤◌, ◌^◌, length, take, drop};
-ghost use Rattle.std.proofs.Math.Option.{some};
 ghost use Rattle.record.specs.Record.{bytes_of, packed, slot_offset};
 ghost use Rattle.record.specs.Slots.{kind_at};
 ghost use Rattle.record.specs.Written.{with_texts};
@@ -21,7 +20,7 @@ pub struct Reached {
 fn put_text(out: &mut [u8], slot: usize, offset: usize, text: &[u8]) -> usize
     requires { (slot_offset + 8 * slot + 8 ≤ offset) × (offset + length text.now ≤ length out.old) × (offset + length text.now < 2 ^ 32) }
     ensures value { result ≡ offset + length text.now }
-    ensures out_after { out.new ≡ with_texts out.old slot offset (some text.now ∷ []) }
+    ensures out_after { out.new ≡ with_texts out.old slot offset (Some text.now ∷ []) }
 {
     record::put_slot(out, slot, offset, text.len());
     lists::put_bytes(out, offset, text);
@@ -35,12 +34,6 @@ fn part(s: &[u8], a: usize, n: usize) -> &[u8]
 {
     let e = a + n;
     &s[a..e]
-}
-
-fn wide(x: u32) -> usize
-    ensures { result ≡ x }
-{
-    x as usize
 }
 
 // A slot of the work slice that is absent or a part of the texts; the offset behind its text.
@@ -61,8 +54,8 @@ fn put_part(
         record::put_slot(out, slot, 0, 0);
         return offset;
     }
-    let a = wide(slots[3 * slot + 1]);
-    let n = wide(slots[3 * slot + 2]);
+    let a = slots[3 * slot + 1] as usize;
+    let n = slots[3 * slot + 2] as usize;
     put_text(out, slot, offset, part(texts, a, n))
 }
 
@@ -81,6 +74,7 @@ pub fn put_parts(
 {
     let mut slot = from.slot;
     let mut offset = from.offset;
+    // No `for`: the slot at which it stops is the answer, which may lie behind `count`.
     while slot < count {
         if PART < slots[3 * slot] {
             return Reached { slot, offset };

@@ -1,39 +1,20 @@
 -- The outcome and the record of a table whose texts stand in slots.
-use mathlib.Core.Bool.{Bool, true, false}
+use Rattle.std.specs.Prelude.{ℕ, Ok}
 use mathlib.Core.List.{List}
-use mathlib.Core.Path.{◌≡◌, refl, ap, ◌∙◌}
+use mathlib.Core.Path.{◌≡◌, ◌∙◌}
 use Prim.Native.Nat.{ℕ, ◌*◌, ◌≤◌}
 use native.Mathlib.Omega.{arith}
-use lib.Dec.{ltb}
 use lib.ListN.{length}
-use Rattle.lists.specs.Choose.{choose}
 use Rattle.model.specs.Policies.{policy_number, orientation_number}
-use Rattle.model.specs.declared.Refusal.TheVariants.{OutputSliceShort}
+use Rattle.model.specs.Refusals.{Reading}
 use Rattle.record.specs.Record.{total}
 use Rattle.record.specs.Slots.{slot_limit}
 use Rattle.record.specs.Written.{begun_of}
-use Rattle.record.specs.declared.Begun.{Begun}
-use Rattle.record.specs.declared.Begun.TheVariants as begun
 use Rattle.record.specs.declared.Head.{Head}
 use Rattle.recognizer.specs.declared.SlotTable.{SlotTable}
-use Rattle.recognizer.specs.declared.Recognized.TheVariants.{Stands}
 use Rattle.tables.specs.NamedTable.{named_table, NamedHeld}
 use Rattle.writer.specs.SlotRecord.{table_from, record_in, SlotsHeld}
 use Rattle.records.specs.Outcomes.{outcome_of, record_of}
-use Rattle.records.specs.declared.Outcome.{Outcome}
-use Rattle.records.specs.declared.Outcome.TheVariants.{Record, Refused}
-
--- the outcome of a record that is begun
-abbrev pub outcome_begun : Begun → Outcome
-outcome_begun (begun.Record n) = Record n
-outcome_begun (begun.NotWritten r) = Refused r
-
-begun-outcome : (n t : ℕ) (b : Begun) → b ≡ begun_of n t → outcome_begun b ≡ choose (ltb n t) (Refused (OutputSliceShort t)) (Record t)
-begun-outcome n t b e = ap outcome_begun e ∙ go (ltb n t)
-  where
-    go : (s : Bool) → outcome_begun (choose s (begun.NotWritten (OutputSliceShort t)) (begun.Record t)) ≡ choose s (Refused (OutputSliceShort t)) (Record t)
-    go true = refl
-    go false = refl
 
 -- a header with the numbers of a table
 pub record Heads (x : Head) (t : SlotTable) : Type 0 where
@@ -44,12 +25,12 @@ pub record Heads (x : Head) (t : SlotTable) : Type 0 where
   pub annotations : x.annotations ≡ t.annotations
   pub rules : x.rules ≡ t.rules
 
-pub head_record : {t : SlotTable} {x : Head} (bytes d out : List ℕ) → Heads x t → record_in out (table_from x bytes d t.slots) ≡ record_of (named_table (Stands t) bytes d) out
+pub head_record : {t : SlotTable} {x : Head} (bytes d out : List ℕ) → Heads x t → record_in out (table_from x bytes d t.slots) ≡ record_of (named_table (Ok t) bytes d) out
 head_record bytes d out e = rw (e.policy, e.orientation, e.inputs, e.outputs, e.annotations, e.rules)
 
-pub head_total : {t : SlotTable} {x : Head} (bytes d : List ℕ) (n : ℕ) (b : Begun) → Heads x t → b ≡ begun_of n (total (table_from x bytes d t.slots))
-    → outcome_begun b ≡ outcome_of (named_table (Stands t) bytes d) n
-head_total {t} {x} bytes d n b e q = begun-outcome n (total (table_from x bytes d t.slots)) b q ∙ rw (e.inputs, e.outputs, e.annotations, e.rules)
+pub head_total : {t : SlotTable} {x : Head} (bytes d : List ℕ) (n : ℕ) (b : Reading ℕ) → Heads x t → b ≡ begun_of n (total (table_from x bytes d t.slots))
+    → b ≡ outcome_of (named_table (Ok t) bytes d) n
+head_total {t} {x} bytes d n b e q = q ∙ rw (e.inputs, e.outputs, e.annotations, e.rules)
 
 pub slots-held : {t : SlotTable} {bytes d : List ℕ} (x : Head) → NamedHeld t bytes d → 3 * slot_limit ≤ length d
     → Heads x t → SlotsHeld x bytes d t.slots t.bytes

@@ -3,51 +3,43 @@
 
 ghost use Rattle.std.specs.Prelude.{◌≡◌, ◌*◌, ◌≤◌, length};
 ghost use Rattle.record.specs.Slots.{slot_limit};
-ghost use Rattle.recognizer.specs.declared.Recognized.TheVariants.{Stands};
 ghost use Rattle.tables.specs.NamedTable.{named_table, AnswerHeld, NamedHeld};
 ghost use Rattle.records.specs.Outcomes.{outcome_of, record_of};
 
 use model::Refusal;
-use recognizer::{Recognized, SlotTable};
-use record::{Begun, Head};
-
-// A record of so many bytes, or why there is none.
-#[derive(Clone, Copy)]
-pub enum Outcome {
-    Record(usize),
-    Refused(Refusal),
-}
+use recognizer::SlotTable;
+use record::Head;
 
 // The record of a table whose texts stand in slots.
-fn write_table(t: SlotTable, bytes: &[u8], slots: &[u32], out: &mut [u8]) -> Outcome
+fn write_table(t: SlotTable, bytes: &[u8], slots: &[u32], out: &mut [u8]) -> Result<usize, Refusal>
     requires { NamedHeld t bytes.now slots.now × (3 * slot_limit ≤ length slots.now) }
-    ensures outcome { result ≡ outcome_of (named_table (Stands t) bytes.now slots.now) (length out.old) }
-    ensures out { out.new ≡ record_of (named_table (Stands t) bytes.now slots.now) out.old }
+    ensures outcome { result ≡ outcome_of (named_table (Ok t) bytes.now slots.now) (length out.old) }
+    ensures out { out.new ≡ record_of (named_table (Ok t) bytes.now slots.now) out.old }
 {
     let policy = t.policy;
     let orientation = t.orientation;
     let head = Head {
-        policy: model::policy_number(policy),
-        orientation: model::orientation_number(orientation),
+        policy: u32::from(policy),
+        orientation: u32::from(orientation),
         inputs: t.inputs as u32,
         outputs: t.outputs as u32,
         annotations: t.annotations as u32,
         rules: t.rules as u32,
     };
-    match writer::write_record(bytes, slots, t.slots, t.bytes, head, out) {
-        Begun::Record(total) => Outcome::Record(total),
-        Begun::NotWritten(r) => Outcome::Refused(r),
-    }
+    writer::write_record(bytes, slots, t.slots, t.bytes, head, out)
 }
 
 // The record of a table that stands, or its refusal.
-pub fn write_recognized(a: Recognized, bytes: &[u8], slots: &[u32], out: &mut [u8]) -> Outcome
+pub fn write_recognized(
+    a: Result<SlotTable, Refusal>,
+    bytes: &[u8],
+    slots: &[u32],
+    out: &mut [u8],
+) -> Result<usize, Refusal>
     requires { AnswerHeld a bytes.now slots.now × (3 * slot_limit ≤ length slots.now) }
     ensures outcome { result ≡ outcome_of (named_table a bytes.now slots.now) (length out.old) }
     ensures out { out.new ≡ record_of (named_table a bytes.now slots.now) out.old }
 {
-    match a {
-        Recognized::Stands(t) => write_table(t, bytes, slots, out),
-        Recognized::NotRecognized(r) => Outcome::Refused(r),
-    }
+    let t = a?;
+    write_table(t, bytes, slots, out)
 }

@@ -1,4 +1,5 @@
 -- Corners that are being counted, and regions that are being added.
+use Rattle.std.specs.Prelude.{Ok, Err, ℕ}
 use mathlib.Core.Path.{◌≡◌, refl, sym, ap, ◌∙◌, subst}
 use mathlib.Core.Bool.{Bool, true, false}
 use mathlib.Core.List.{List, [], ◌∷◌, ◌++◌}
@@ -8,7 +9,7 @@ use native.Mathlib.Omega.{arith}
 use lib.ListN.{length, length-append}
 use lib.Dec.{ltb}
 use borrow.Author.Tests.{lt-ltb, le-ltb, ltb-true}
-use Rattle.lists.specs.Answer.{ok, refused, ◌>>=◌, each, those, Below}
+use Rattle.lists.specs.Answer.{◌>>=◌, each, those, Below}
 use Rattle.lists.specs.Choose.{choose}
 use Rattle.lists.specs.Picture.{Picture, canvas, at}
 use Rattle.lists.specs.Run.{run}
@@ -27,8 +28,6 @@ use Rattle.rects.specs.Rects.{rect_at, rects_of, Small}
 use Rattle.regions.specs.Slices.{regions_in, Layer}
 use Rattle.regions.specs.Regions.{Finder, is_corner, corners_of, add_region, regions_by}
 use Rattle.regions.specs.Within.{add_within}
-use Rattle.regions.specs.declared.Counted.{Counted}
-use Rattle.regions.specs.declared.Counted.TheVariants.{Regions, NotCounted}
 
 -- whether a corner stands at a place
 abbrev corner_at : Picture → ℕ → ℕ → Bool
@@ -73,7 +72,7 @@ pub place_of : (w h i len : ℕ) → Layer w h len → (l : i < h * w) → Place
 place_of w h i len L l = record { column = column_in w h i l; row = row_in_lem w h i l; size = L.size }
 
 -- the numbers of a frame fit
-pub frame_small : (K : Kind) (p : Picture) (w h x y len : ℕ) (r : Rect) → Layer w h len → Place w h x y len → frame_of K p w h x y ≡ ok r → Small r
+pub frame_small : (K : Kind) (p : Picture) (w h x y len : ℕ) (r : Rect) → Layer w h len → Place w h x y len → frame_of K p w h x y ≡ Ok r → Small r
 frame_small K p w h x y len r L P e =
     let F = accepted K p w h x y r e in
     let f = F.frame in
@@ -120,11 +119,11 @@ module _ {find : Finder} {l : List ℕ} {w h : ℕ} {d out : List ℕ} {i n : �
   abbrev p : Picture
   p = canvas w h l
 
-  module _ (g : i < h * w) (r : Counted) (o : List ℕ) (e : regions_in r o ≡ add_within find w i (rects_of out n)) where
-    added : {m : Counted} → r ≡ m → choose (corner_at p w i) (add_within find w i (rects_of out n)) (ok (rects_of out n)) ≡ regions_in m o
-    added z = rw (q.starts g) (sym e ∙ ap (λ (x : Counted). regions_in x o) z)
+  module _ (g : i < h * w) (r : Reading ℕ) (o : List ℕ) (e : regions_in r o ≡ add_within find w i (rects_of out n)) where
+    added : {m : (Reading ℕ)} → r ≡ m → choose (corner_at p w i) (add_within find w i (rects_of out n)) (Ok (rects_of out n)) ≡ regions_in m o
+    added z = rw (q.starts g) (sym e ∙ ap (λ (x : Reading ℕ). regions_in x o) z)
 
-    pub adding_more : (m : ℕ) → r ≡ Regions m → length o ≡ length out → (k : ℕ) → NextCorner (corner_in l) (h * w) (i + 1) k → Adding find l w h d o k m
+    pub adding_more : (m : ℕ) → r ≡ Ok m → length o ≡ length out → (k : ℕ) → NextCorner (corner_in l) (h * w) (i + 1) k → Adding find l w h d o k m
     adding_more m f z k u =
         let c = corner-canvas l w h (i + 1) k u in
         record {
@@ -134,10 +133,10 @@ module _ {find : Finder} {l : List ℕ} {w h : ℕ} {d out : List ℕ} {i n : �
           long = z ∙ q.long;
         }
 
-    pub adding_out : (f : Refusal) → r ≡ NotCounted f → refused f ≡ each (add_within find w) (corners_of p w h) []
+    pub adding_out : (f : Refusal) → r ≡ Err f → Err f ≡ each (add_within find w) (corners_of p w h) []
     adding_out f z = sym (turn_out (add_within find w) (corner_at p w) i (h * w) (rects_of out n) f g (added z)) ∙ q.same
 
-  pub adding_end : h * w ≤ i → ok (rects_of out n) ≡ each (add_within find w) (corners_of p w h) []
+  pub adding_end : h * w ≤ i → Ok (rects_of out n) ≡ each (add_within find w) (corners_of p w h) []
   adding_end g = sym (turn_end (add_within find w) (corner_at p w) i (h * w) (rects_of out n) g) ∙ q.same
 
 -- a step where there is room, and where there is none
@@ -145,28 +144,28 @@ module _ (find : Finder) (w i : ℕ) (d : List ℕ) (n : ℕ) where
   pub has_room : n < region_count → add_within find w i (rects_of d n) ≡ add_region find w i (rects_of d n)
   has_room l = rw (length_run (rect_at d) 0 n, lt-ltb n region_count l)
 
-  pub no_room : region_count ≤ n → add_within find w i (rects_of d n) ≡ refused OverLimit
+  pub no_room : region_count ≤ n → add_within find w i (rects_of d n) ≡ Err OverLimit
   no_room l = rw (length_run (rect_at d) 0 n, le-ltb n region_count l)
 
 module _ (find : Finder) (w : ℕ) where
   -- what was added within the limit is added without it
-  step_below : (t : Bool) (m : Reading (List Rect)) → Below (choose t m (refused OverLimit)) m
+  step_below : (t : Bool) (m : Reading (List Rect)) → Below (choose t m (Err OverLimit)) m
   step_below true m = λ a e. e
   step_below false m = λ a e. refused-ok e
 
   within_below : (cs : List ℕ) (rs : List Rect) → Below (each (add_within find w) cs rs) (each (add_region find w) cs rs)
   within_below = each_below (add_within find w) (add_region find w) (λ i rs. step_below (ltb (length rs) region_count) (add_region find w i rs))
 
-  one_more : (t : Bool) (m : Reading Rect) (rs rs' : List Rect) → choose t (◌>>=◌ m (λ r. ok (rs ++ (r ∷ [])))) (refused OverLimit) ≡ ok rs'
+  one_more : (t : Bool) (m : Reading Rect) (rs rs' : List Rect) → choose t (◌>>=◌ m (λ r. Ok (rs ++ (r ∷ [])))) (Err OverLimit) ≡ Ok rs'
       → (t ≡ true) × (length rs' ≡ length rs + 1)
-  one_more true (ok r) rs rs' e =
+  one_more true (Ok r) rs rs' e =
       let z : rs ++ (r ∷ []) ≡ rs' = cc in
       (refl, ap length (sym z) ∙ length-append rs (r ∷ []))
-  one_more true (refused r) rs rs' e = refused-ok e
+  one_more true (Err r) rs rs' e = refused-ok e
   one_more false m rs rs' e = refused-ok e
 
   -- and the corners were no more than there may be regions
-  within-few : (cs : List ℕ) (rs rs' : List Rect) → each (add_within find w) cs rs ≡ ok rs' → length rs ≤ region_count → length rs + length cs ≤ region_count
+  within-few : (cs : List ℕ) (rs rs' : List Rect) → each (add_within find w) cs rs ≡ Ok rs' → length rs ≤ region_count → length rs + length cs ≤ region_count
   unfolding each
   within-few [] rs rs' e h = omega arith
   within-few (i ∷ cs) rs rs' e h =
@@ -178,9 +177,9 @@ module _ (find : Finder) (w : ℕ) where
 
   -- where the corners are few enough the limit changes nothing
   on : (m : Reading Rect) (cs : List ℕ) (rs : List Rect) → ((r : Rect) → each (add_within find w) cs (rs ++ (r ∷ [])) ≡ each (add_region find w) cs (rs ++ (r ∷ [])))
-      → ◌>>=◌ (◌>>=◌ m (λ r. ok (rs ++ (r ∷ [])))) (each (add_within find w) cs) ≡ ◌>>=◌ (◌>>=◌ m (λ r. ok (rs ++ (r ∷ [])))) (each (add_region find w) cs)
-  on (ok r) cs rs h = h r
-  on (refused r) cs rs h = refl
+      → ◌>>=◌ (◌>>=◌ m (λ r. Ok (rs ++ (r ∷ [])))) (each (add_within find w) cs) ≡ ◌>>=◌ (◌>>=◌ m (λ r. Ok (rs ++ (r ∷ [])))) (each (add_region find w) cs)
+  on (Ok r) cs rs h = h r
+  on (Err r) cs rs h = refl
 
   few-within : (cs : List ℕ) (rs : List Rect) → length rs + length cs ≤ region_count → each (add_within find w) cs rs ≡ each (add_region find w) cs rs
   unfolding each
@@ -192,7 +191,7 @@ module _ (find : Finder) (w : ℕ) where
 
 -- more corners than there may be regions
 module _ (find : Finder) (p : Picture) (w h : ℕ) where
-  pub too_many : region_count < length (corners_of p w h) → refused OverLimit ≡ regions_by find p w h
+  pub too_many : region_count < length (corners_of p w h) → Err OverLimit ≡ regions_by find p w h
   unfolding regions_by
   too_many l = rw (lt-ltb region_count (length (corners_of p w h)) l)
 
@@ -200,10 +199,10 @@ module _ (find : Finder) (p : Picture) (w h : ℕ) where
   unfolding regions_by
   few_enough l = rw (le-ltb region_count (length (corners_of p w h)) l)
 
-  pub within_all : (rs : List Rect) → ok rs ≡ each (add_within find w) (corners_of p w h) [] → ok rs ≡ regions_by find p w h
+  pub within_all : (rs : List Rect) → Ok rs ≡ each (add_within find w) (corners_of p w h) [] → Ok rs ≡ regions_by find p w h
   within_all rs e =
       let l = within-few find w (corners_of p w h) [] rs (sym e) (omega arith) in
       sym (within_below find w (corners_of p w h) [] rs (sym e)) ∙ few_enough (omega arith)
 
-  pub within-out : (r : Refusal) → length (corners_of p w h) ≤ region_count → refused r ≡ each (add_within find w) (corners_of p w h) [] → refused r ≡ regions_by find p w h
+  pub within-out : (r : Refusal) → length (corners_of p w h) ≤ region_count → Err r ≡ each (add_within find w) (corners_of p w h) [] → Err r ≡ regions_by find p w h
   within-out r l e = e ∙ few-within find w (corners_of p w h) [] (omega arith) ∙ few_enough l

@@ -1,6 +1,6 @@
 -- The regions of a drawing: document 01, "Regions and plane".
-use Rattle.std.specs.Prelude.{Bool, List, [], ◌∷◌, ◌++◌, ℕ, ◌*◌, ◌/◌, ◌%◌, ltb, length}
-use Rattle.lists.specs.Answer.{ok, refused, ◌>>=◌, each, those}
+use Rattle.std.specs.Prelude.{Bool, List, [], ◌∷◌, ◌++◌, ℕ, ◌*◌, ◌/◌, ◌%◌, ltb, length, Ok, Err}
+use Rattle.lists.specs.Answer.{◌>>=◌, each, those}
 use Rattle.lists.specs.Choose.{choose}
 use Rattle.lists.specs.OneOf.{one_of}
 use Rattle.lists.specs.Picture.{Picture, at}
@@ -27,11 +27,11 @@ corners_of p w h = those (λ i. is_corner (at p w i)) 0 (h * w)
 abbrev pub add_region : Finder → ℕ → ℕ → List Rect → Reading (List Rect)
 add_region find w i rs = do
   r ← find (i % w) (i / w)
-  ok (rs ++ (r ∷ []))
+  Ok (rs ++ (r ∷ []))
 
 -- the frames of all corners, in row order. The corners are counted before any frame is looked for (7)
 unfoldable pub regions_by : Finder → Picture → ℕ → ℕ → Reading (List Rect)
-regions_by find p w h = choose (ltb region_count (length (corners_of p w h))) (refused OverLimit) (each (add_region find w) (corners_of p w h) [])
+regions_by find p w h = choose (ltb region_count (length (corners_of p w h))) (Err OverLimit) (each (add_region find w) (corners_of p w h) [])
 
 -- the regions by walks
 abbrev pub regions_of : Picture → ℕ → ℕ → Reading (List Rect)

@@ -1,6 +1,5 @@
 -- How the inner functions of the crate add regions: as many as there may be.
-use Rattle.std.specs.Prelude.{List, ℕ, ltb, length}
-use Rattle.lists.specs.Answer.{refused}
+use Rattle.std.specs.Prelude.{List, ℕ, ltb, length, Err}
 use Rattle.lists.specs.Choose.{choose}
 use Rattle.model.specs.Limits.{region_count}
 use Rattle.model.specs.Refusals.{Reading}
@@ -10,4 +9,4 @@ use Rattle.regions.specs.Regions.{Finder, add_region}
 
 -- one region more, if there may be one (7)
 abbrev pub add_within : Finder → ℕ → ℕ → List Rect → Reading (List Rect)
-add_within find w i rs = choose (ltb (length rs) region_count) (add_region find w i rs) (refused OverLimit)
+add_within find w i rs = choose (ltb (length rs) region_count) (add_region find w i rs) (Err OverLimit)

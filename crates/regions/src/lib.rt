@@ -17,14 +17,6 @@ ghost use Rattle.regions.specs.Within.{add_within};
 use model::Refusal;
 use model::box_drawing::*;
 use model::limits::REGIONS;
-use walks::Framed;
-
-// So many regions stand in the slice, or why they cannot.
-#[derive(Clone, Copy)]
-pub enum Counted {
-    Regions(usize),
-    NotCounted(Refusal),
-}
 
 // Whether a frame starts at a character. The four corners differ in bits 4 and 5 alone.
 fn is_corner(code: u32) -> bool
@@ -51,6 +43,7 @@ fn skip_fours(layer: &[u32], size: usize, i: usize) -> usize
     ensures { Seeking (corner_in layer.now) size i result }
 {
     let mut k = i;
+    // No `for`: each turn goes on by four places, and where it ends is the answer.
     while 4 <= size - k {
         if in_four(layer, k) {
             return k;
@@ -65,12 +58,10 @@ pub fn next_corner(layer: &[u32], size: usize, i: usize) -> usize
     requires { (i ≤ size) × (size ≤ length layer.now) }
     ensures { NextCorner (corner_in layer.now) size i result }
 {
-    let mut k = skip_fours(layer, size, i);
-    while k < size {
+    for k in skip_fours(layer, size, i)..size {
         if is_corner(layer[k]) {
             return k;
         }
-        k += 1;
     }
     size
 }
@@ -81,72 +72,78 @@ fn count_corners(layer: &[u32], w: usize, h: usize) -> usize
     ensures { result ≡ length (corners_of (canvas w h layer.now) w h) }
 {
     let size = h * w;
-    let mut i = 0;
     let mut n = 0;
-    while i < size {
+    for i in 0..size {
         if is_corner(layer[i]) {
             n += 1;
         }
-        i += 1;
     }
     n
 }
 
 // The region whose corner stands at place i, as rect n.
-fn add_region(layer: &[u32], w: usize, h: usize, i: usize, rects: &mut [u32], n: usize) -> Counted
+fn add_region(
+    layer: &[u32],
+    w: usize,
+    h: usize,
+    i: usize,
+    rects: &mut [u32],
+    n: usize,
+) -> Result<usize, Refusal>
     requires { Layer w h (length layer.now) × (i < h * w) × (n * 4 + 4 ≤ length rects.old) }
     ensures { regions_in result rects.new ≡ add_region (frame_of thin (canvas w h layer.now) w h) w i (rects_of rects.old n) }
 {
-    match frames::recognize_region(layer, w, h, i % w, i / w) {
-        Framed::Closed(r) => {
-            rects::put_rect(rects, n, r);
-            Counted::Regions(n + 1)
-        }
-        Framed::NotFramed(r) => Counted::NotCounted(r),
-    }
+    let r = frames::recognize_region(layer, w, h, i % w, i / w)?;
+    rects::put_rect(rects, n, r);
+    Ok(n + 1)
 }
 
 // The same if there may be one more.
-fn add_within(layer: &[u32], w: usize, h: usize, i: usize, rects: &mut [u32], n: usize) -> Counted
+fn add_within(
+    layer: &[u32],
+    w: usize,
+    h: usize,
+    i: usize,
+    rects: &mut [u32],
+    n: usize,
+) -> Result<usize, Refusal>
     requires { Layer w h (length layer.now) × (i < h * w) × (region_count * 4 ≤ length rects.old) }
     ensures { regions_in result rects.new ≡ add_within (frame_of thin (canvas w h layer.now) w h) w i (rects_of rects.old n) }
 {
     if REGIONS <= n {
-        return Counted::NotCounted(Refusal::OverLimit);
+        return Err(Refusal::OverLimit);
     }
     add_region(layer, w, h, i, rects, n)
 }
 
 // The regions of a layer, as many as there may be.
-fn regions_within(layer: &[u32], w: usize, h: usize, rects: &mut [u32]) -> Counted
+fn regions_within(layer: &[u32], w: usize, h: usize, rects: &mut [u32]) -> Result<usize, Refusal>
     requires { Layer w h (length layer.now) × (region_count * 4 ≤ length rects.old) }
     ensures { regions_in result rects.new ≡ each (add_within (frame_of thin (canvas w h layer.now) w h) w) (corners_of (canvas w h layer.now) w h) [] }
 {
     let size = h * w;
     let mut i = next_corner(layer, size, 0);
     let mut n = 0;
+    // No `for`: each turn goes on to the next corner.
     while i < size {
-        n = match add_within(layer, w, h, i, rects, n) {
-            Counted::Regions(m) => m,
-            Counted::NotCounted(r) => return Counted::NotCounted(r),
-        };
+        n = add_within(layer, w, h, i, rects, n)?;
         i = next_corner(layer, size, i + 1);
     }
-    Counted::Regions(n)
+    Ok(n)
 }
 
 // The regions of a layer of w columns and h rows. Corners are counted only where a refusal asks whether they are too many.
-pub fn regions(layer: &[u32], w: usize, h: usize, rects: &mut [u32]) -> Counted
+pub fn regions(layer: &[u32], w: usize, h: usize, rects: &mut [u32]) -> Result<usize, Refusal>
     requires { Layer w h (length layer.now) × (region_count * 4 ≤ length rects.old) }
     ensures { regions_in result rects.new ≡ regions_of (canvas w h layer.now) w h }
 {
     match regions_within(layer, w, h, rects) {
-        Counted::Regions(n) => Counted::Regions(n),
-        Counted::NotCounted(r) => {
+        Ok(n) => Ok(n),
+        Err(r) => {
             if REGIONS < count_corners(layer, w, h) {
-                return Counted::NotCounted(Refusal::OverLimit);
+                return Err(Refusal::OverLimit);
             }
-            Counted::NotCounted(r)
+            Err(r)
         }
     }
 }

@@ -1,9 +1,9 @@
 -- Lines that are being answered.
+use Rattle.std.specs.Prelude.{Option, ℕ, Some, None}
 use mathlib.Core.Path.{◌≡◌, refl, sym, ap, subst, ◌∙◌}
 use mathlib.Core.Bool.{Bool, true, false}
 use mathlib.Core.List.{List, [], ◌∷◌, ◌++◌}
 use mathlib.Core.Logic.{inl, inr}
-use mathlib.Core.Option.{Option, none}
 use Prim.Native.Nat.{ℕ, suc, ◌+◌, ◌-◌, ◌≤◌, ◌<◌}
 use native.Mathlib.Omega.{arith}
 use lib.ListN.{length, take, drop, drop_of_length-le}
@@ -15,31 +15,27 @@ use Rattle.print.specs.Decimal.{Written}
 use Rattle.print.specs.Lines.{blank, line_feed}
 use Rattle.print.proofs.WrittenLaws.{take_written, written_as}
 use Rattle.lines.specs.Texts.{before, FirstAt, text_of, text_in}
-use Rattle.lines.specs.declared.LineText.{LineText}
-use Rattle.lines.specs.declared.LineText.TheVariants.{Text, Malformed}
 use Rattle.lines.specs.Room.{line_bytes}
 use Rattle.answers.specs.SplitLines.{split_line}
 use Rattle.answers.proofs.SplitLaws.{part_most_lem}
 use Rattle.replay.specs.Answers.{on_read, answer_by, answer_of, AnsweredIn, Replayed, nothing, line, Stopped}
 use Rattle.replay.specs.Kinds.{kind_of, word_of}
-use Rattle.replay.specs.declared.Answered.{Answered}
-use Rattle.replay.specs.declared.Answered.TheVariants.{Upto, NoText}
 use Rattle.replay.specs.declared.Kind.{Kind}
 use Rattle.replay.specs.declared.Kind.TheVariants.{Split as SplitKind, Drawing, Plane, Sheet, Table, Unknown}
 
 -- a text that is answered, and one that is absent
-module _ (line t : List ℕ) (f : LineText) (most : ℕ) (e : text_of most line ≡ text_in f t) (h : most ≡ text_bytes) (g : List ℕ → List ℕ) where
+module _ (line t : List ℕ) (f : Option ℕ) (most : ℕ) (e : text_of most line ≡ text_in f t) (h : most ≡ text_bytes) (g : List ℕ → List ℕ) where
   read : text_of text_bytes line ≡ text_in f t
   read = ap (λ (n : ℕ). text_of n line) (sym h) ∙ e
 
-  pub answered-text : {out o : List ℕ} {at r n : ℕ} → f ≡ Text n → Written out o at (g (take (n - 0) (drop 0 t))) line_bytes r
-      → AnsweredIn (Upto r) (on_read (text_of text_bytes line) g) out o at
+  pub answered-text : {out o : List ℕ} {at r n : ℕ} → f ≡ Some n → Written out o at (g (take (n - 0) (drop 0 t))) line_bytes r
+      → AnsweredIn (Some r) (on_read (text_of text_bytes line) g) out o at
   answered-text {out} {o} {at} {r} {n} k w =
       let z : n - 0 ≡ n = omega arith in
-      (g (take n t), (ap (λ (x : Option (List ℕ)). on_read x g) (read ∙ ap (λ (f : LineText). text_in f t) k), written_as w (ap (λ (m : ℕ). g (take m t)) z)))
+      (g (take n t), (ap (λ (x : Option (List ℕ)). on_read x g) (read ∙ ap (λ (f : Option ℕ). text_in f t) k), written_as w (ap (λ (m : ℕ). g (take m t)) z)))
 
-  pub answered-none : f ≡ Malformed → on_read (text_of text_bytes line) g ≡ none
-  answered-none k = ap (λ (x : Option (List ℕ)). on_read x g) (read ∙ ap (λ (f : LineText). text_in f t) k)
+  pub answered-none : f ≡ None → on_read (text_of text_bytes line) g ≡ None
+  answered-none k = ap (λ (x : Option (List ℕ)). on_read x g) (read ∙ ap (λ (f : Option ℕ). text_in f t) k)
 
 -- the line of a split, with a scratch slice of a known length
 pub split-line : {out o : List ℕ} {at r : ℕ} (text : List ℕ) (room : ℕ) → room ≡ text_bytes → Written out o at (split_line room text) line_bytes r → Written out o at (split_line text_bytes text) line_bytes r
@@ -60,7 +56,7 @@ module _ {line : List ℕ} {end : ℕ} (f : FirstAt line 0 blank end) where
       let w : kind_of (word_of line) ≡ K = ap kind_of (sym f.same) ∙ sym e ∙ g in
       ap (answer_by K text_bytes) (part_end line (end + 1)) ∙ sym (rw (w, z))
 
-  nothing-behind : (k : Kind) → answer_by k text_bytes [] ≡ none
+  nothing-behind : (k : Kind) → answer_by k text_bytes [] ≡ None
   unfolding text_of before number_of
   nothing-behind SplitKind = refl
   nothing-behind Drawing = refl
@@ -69,7 +65,7 @@ module _ {line : List ℕ} {end : ℕ} (f : FirstAt line 0 blank end) where
   nothing-behind Table = refl
   nothing-behind Unknown = refl
 
-  pub no_rest : end ≡ length line → answer_of text_bytes line ≡ none
+  pub no_rest : end ≡ length line → answer_of text_bytes line ≡ None
   unfolding answer_of
   no_rest e =
       let z : length line ≤ suc (length (before blank line)) = omega (arith, word_long) in
@@ -79,10 +75,10 @@ module _ {line : List ℕ} {end : ℕ} (f : FirstAt line 0 blank end) where
 pub by_kind : (s : List ℕ) (k K : Kind) → k ≡ K → answer_by K text_bytes s ≡ answer_by k text_bytes s
 by_kind s k K e = ap (λ (k : Kind). answer_by k text_bytes s) (sym e)
 
-pub answered_as : (r : Answered) {x y : Option (List ℕ)} (d o : List ℕ) (at : ℕ) → AnsweredIn r x d o at → x ≡ y → AnsweredIn r y d o at
+pub answered_as : (r : Option ℕ) {x y : Option (List ℕ)} (d o : List ℕ) (at : ℕ) → AnsweredIn r x d o at → x ≡ y → AnsweredIn r y d o at
 answered_as r {x} {y} d o at a e = subst (λ (x : Option (List ℕ)). AnsweredIn r x d o at) e a
 
-pub text-fits : (f : LineText) (t : List ℕ) {n : ℕ} → f ≡ Text n → length t ≡ text_bytes → length (take (n - 0) (drop 0 t)) ≤ text_bytes
+pub text-fits : (f : Option ℕ) (t : List ℕ) {n : ℕ} → f ≡ Some n → length t ≡ text_bytes → length (take (n - 0) (drop 0 t)) ≤ text_bytes
 text-fits f t {n} e h = omega (arith, part_most_lem (n - 0) 0 t)
 
 -- the lines of the input up to `at` are answered, in the first n bytes of out
@@ -109,12 +105,12 @@ whole {s} {at} {end} f l =
     ap (λ (n : ℕ). take n s) e ∙ take-add at (end + 1 - at) s
     ∙ ap (λ (x : List ℕ). take at s ++ x) (part_add s at end 1 f.low ∙ ap (λ (x : List ℕ). take (end - at) (drop at s) ++ x) (rw (at_cons s end 0 l, f.ends l)))
 
-module _ {input text scratch out₀ out : List ℕ} {at n : ℕ} (q : Answering input text scratch out₀ out at n) (r : Answered) (o l : List ℕ)
+module _ {input text scratch out₀ out : List ℕ} {at n : ℕ} (q : Answering input text scratch out₀ out at n) (r : Option ℕ) (o l : List ℕ)
     (a : AnsweredIn r (answer_of text_bytes l) out o n) where
-  pub answering_more : {end m : ℕ} {t s : List ℕ} → FirstAt input at line_feed end → end < length input → l ≡ take (end - at) (drop at input) → r ≡ Upto m
+  pub answering_more : {end m : ℕ} {t s : List ℕ} → FirstAt input at line_feed end → end < length input → l ≡ take (end - at) (drop at input) → r ≡ Some m
       → length t ≡ length text → length s ≡ length scratch → length o ≡ length out → n + line_bytes ≤ length out → Answering input t s out₀ o (end + 1) m
   answering_more {end} {m} {t} {s} f h g e lt ls lo room =
-      let b : AnsweredIn (Upto m) (answer_of text_bytes l) out o n = subst (λ (r : Answered). AnsweredIn r (answer_of text_bytes l) out o n) e a in
+      let b : AnsweredIn (Some m) (answer_of text_bytes l) out o n = subst (λ (r : Option ℕ). AnsweredIn r (answer_of text_bytes l) out o n) e a in
       let w : Written out o n b.0 line_bytes m = b.1.1 in
       let x : take m o ≡ take n out ++ b.0 = take_written w q.fits in
       let y : take (end + 1) input ≡ take at input ++ (l ++ (line_feed ∷ [])) = whole f h ∙ ap (λ (z : List ℕ). take at input ++ (z ++ (line_feed ∷ []))) (sym g) in
@@ -127,10 +123,10 @@ module _ {input text scratch out₀ out : List ℕ} {at n : ℕ} (q : Answering 
         done = rw (x, y) (line l b.0 q.done b.1.0);
       }
 
-  pub answering_stop : {end : ℕ} → FirstAt input at line_feed end → l ≡ take (end - at) (drop at input) → r ≡ NoText → Ended false input at o n
+  pub answering_stop : {end : ℕ} → FirstAt input at line_feed end → l ≡ take (end - at) (drop at input) → r ≡ None → Ended false input at o n
   answering_stop {end} f g e =
-      let b : AnsweredIn NoText (answer_of text_bytes l) out o n = subst (λ (r : Answered). AnsweredIn r (answer_of text_bytes l) out o n) e a in
-      let t : answer_of text_bytes (before line_feed (drop at input)) ≡ none = ap (answer_of text_bytes) (sym f.same ∙ sym g) ∙ b.0 in
+      let b : AnsweredIn None (answer_of text_bytes l) out o n = subst (λ (r : Option ℕ). AnsweredIn r (answer_of text_bytes l) out o n) e a in
+      let t : answer_of text_bytes (before line_feed (drop at input)) ≡ None = ap (answer_of text_bytes) (sym f.same ∙ sym g) ∙ b.0 in
       rw b.1 (q.done, ((q.inside, q.fits), t))
 
 -- the answers end where no whole line is left, or where there is little room

@@ -1,6 +1,5 @@
 -- The answers to lines.
-use Rattle.std.specs.Prelude.{Bool, true, false, List, [], ◌∷◌, ◌++◌, ◌⊎◌, ◌≡◌, ℕ, ◌+◌, ◌<◌, length, drop}
-use Rattle.std.proofs.Math.Option.{Option, none, some}
+use Rattle.std.specs.Prelude.{Bool, true, false, List, [], ◌∷◌, ◌++◌, ◌⊎◌, ◌≡◌, ℕ, ◌+◌, ◌<◌, length, drop, Option, None, Some}
 use Rattle.lent.specs.LentPlane.{LentPlane}
 use Rattle.policies.specs.DrawnPolicy.{walked_policy}
 use Rattle.print.specs.Decimal.{Written}
@@ -13,15 +12,13 @@ use Rattle.lines.specs.Room.{line_bytes}
 use Rattle.answers.specs.SplitLines.{split_line}
 use Rattle.outcome_lines.specs.PolicyLines.{record_bytes, policy_lines}
 use Rattle.replay.specs.Kinds.{kind_of, word_of, rest_of}
-use Rattle.replay.specs.declared.Answered.{Answered}
-use Rattle.replay.specs.declared.Answered.TheVariants.{Upto, NoText}
 use Rattle.replay.specs.declared.Kind.{Kind}
 use Rattle.replay.specs.declared.Kind.TheVariants.{Split, Drawing, Plane, Sheet, Table, Unknown}
 
 -- the answer to a text that may be absent
 abbrev pub on_read : Option (List ℕ) → (List ℕ → List ℕ) → Option (List ℕ)
-on_read none f = none
-on_read (some t) f = some (f t)
+on_read None f = None
+on_read (Some t) f = Some (f t)
 
 -- the answers to what stands behind a kind, with a scratch slice of so many bytes
 abbrev pub split_answer : ℕ → List ℕ → Option (List ℕ)
@@ -39,8 +36,8 @@ sheet_answer room s = on_read (text_of room s) sheet_lines
 
 -- the answer to the lists of a lent plane: its record, if the flag asks for it, or its upright sheet
 abbrev pub lent_answer : Bool → Option LentPlane → Option (List ℕ)
-lent_answer is-table none = none
-lent_answer is-table (some l) = some (lines_by is-table l)
+lent_answer is-table None = None
+lent_answer is-table (Some l) = Some (lines_by is-table l)
 
 abbrev pub plane_answer : Bool → ℕ → List ℕ → Option (List ℕ)
 plane_answer is-table room s = ◌>>=◌ (text_of room s) (λ t. lent_answer is-table (lent_in t))
@@ -51,7 +48,7 @@ answer_by Drawing room s = drawing_answer room s
 answer_by Plane room s = plane_answer false room s
 answer_by Sheet room s = sheet_answer room s
 answer_by Table room s = plane_answer true room s
-answer_by Unknown room s = none
+answer_by Unknown room s = None
 
 -- the answer to a line without its line feed, if it is none that is malformed
 unfoldable pub answer_of : ℕ → List ℕ → Option (List ℕ)
@@ -60,15 +57,15 @@ answer_of room line = answer_by (kind_of (word_of line)) room (rest_of line)
 -- the answers to whole lines, one after the other
 pub data Replayed (room : ℕ) : List ℕ → List ℕ → Type 0 where
   nothing : Replayed room [] []
-  line : {lines answers : List ℕ} (l a : List ℕ) → Replayed room lines answers → answer_of room l ≡ some a
+  line : {lines answers : List ℕ} (l a : List ℕ) → Replayed room lines answers → answer_of room l ≡ Some a
       → Replayed room (lines ++ (l ++ (line_feed ∷ []))) (answers ++ a)
 
 -- what became of the slice d where x answers: the answer stands from `at` on; or there is none, and d is as it was
-abbrev pub AnsweredIn : Answered → Option (List ℕ) → List ℕ → List ℕ → ℕ → Type 0
-AnsweredIn (Upto r) x d o at = (a : List ℕ) × ((x ≡ some a) × Written d o at a line_bytes r)
-AnsweredIn NoText x d o at = (x ≡ none) × (o ≡ d)
+abbrev pub AnsweredIn : Option ℕ → Option (List ℕ) → List ℕ → List ℕ → ℕ → Type 0
+AnsweredIn (Some r) x d o at = (a : List ℕ) × ((x ≡ Some a) × Written d o at a line_bytes r)
+AnsweredIn None x d o at = (x ≡ None) × (o ≡ d)
 
 -- why answering stopped at a place of the input, with n bytes in the slice o: the line there has no answer; or no whole line is left, or little room
 abbrev pub Stopped : Bool → ℕ → List ℕ → ℕ → List ℕ → ℕ → Type 0
-Stopped false room s at o n = answer_of room (before line_feed (drop at s)) ≡ none
+Stopped false room s at o n = answer_of room (before line_feed (drop at s)) ≡ None
 Stopped true room s at o n = (before line_feed (drop at s) ≡ drop at s) ⊎ (length o < n + line_bytes)

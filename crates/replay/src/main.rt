@@ -10,17 +10,9 @@ ghost use Rattle.lines.specs.Room.{line_bytes};
 ghost use Rattle.replay.specs.Kinds.{kind_of};
 ghost use Rattle.replay.specs.Answers.{split_answer, drawing_answer, sheet_answer, lent_answer, plane_answer, answer_by, answer_of, AnsweredIn, Replayed, Stopped};
 
-use lent_lists::LentLists;
-use lines::{LINE_BYTES, LineText};
+use lines::LINE_BYTES;
 use model::limits::TEXT_BYTES;
 use std::io::{self, Read, Write};
-
-// What became of a line: its answer ends at an index, or it is malformed.
-#[derive(Clone, Copy)]
-pub enum Answered {
-    Upto(usize),
-    NoText,
-}
 
 // The answer to what stands behind `split`.
 fn answer_split(
@@ -29,58 +21,54 @@ fn answer_split(
     scratch: &mut [u8],
     out: &mut [u8],
     at: usize,
-) -> Answered
+) -> Option<usize>
     requires { (at + line_bytes ≤ length out.old) × (length text.old ≡ text_bytes) × (length scratch.old ≡ text_bytes) }
     ensures { AnsweredIn result (split_answer text_bytes line.now) out.old out.new at }
 {
-    match lines::read_text(line, text) {
-        LineText::Text(n) => Answered::Upto(answers::put_split_line(out, at, &text[0..n], scratch)),
-        LineText::Malformed => Answered::NoText,
-    }
+    let n = lines::read_text(line, text)?;
+    Some(answers::put_split_line(out, at, &text[0..n], scratch))
 }
 
 // The answer to what stands behind `drawing`.
-fn answer_drawing(line: &[u8], text: &mut [u8], out: &mut [u8], at: usize) -> Answered
+fn answer_drawing(line: &[u8], text: &mut [u8], out: &mut [u8], at: usize) -> Option<usize>
     requires { (at + line_bytes ≤ length out.old) × (length text.old ≡ text_bytes) }
     ensures { AnsweredIn result (drawing_answer text_bytes line.now) out.old out.new at }
 {
-    match lines::read_text(line, text) {
-        LineText::Text(n) => Answered::Upto(drawings::put_drawing(out, at, &text[0..n])),
-        LineText::Malformed => Answered::NoText,
-    }
+    let n = lines::read_text(line, text)?;
+    Some(drawings::put_drawing(out, at, &text[0..n]))
 }
 
 // The answer to what stands behind `sheet`.
-fn answer_sheet(line: &[u8], text: &mut [u8], out: &mut [u8], at: usize) -> Answered
+fn answer_sheet(line: &[u8], text: &mut [u8], out: &mut [u8], at: usize) -> Option<usize>
     requires { (at + line_bytes ≤ length out.old) × (length text.old ≡ text_bytes) }
     ensures { AnsweredIn result (sheet_answer text_bytes line.now) out.old out.new at }
 {
-    match lines::read_text(line, text) {
-        LineText::Text(n) => Answered::Upto(reports::put_sheet(out, at, &text[0..n])),
-        LineText::Malformed => Answered::NoText,
-    }
+    let n = lines::read_text(line, text)?;
+    Some(reports::put_sheet(out, at, &text[0..n]))
 }
 
 // The answer to the bytes of a lent plane.
-fn answer_lent(s: &[u8], is_table: bool, out: &mut [u8], at: usize) -> Answered
+fn answer_lent(s: &[u8], is_table: bool, out: &mut [u8], at: usize) -> Option<usize>
     requires { at + line_bytes ≤ length out.old }
     ensures { AnsweredIn result (lent_answer is_table (lent_in s.now)) out.old out.new at }
 {
-    match lent_lists::lists_in(s) {
-        LentLists::Lists(e) => Answered::Upto(lent_answers::put_lent(out, at, is_table, s, e)),
-        LentLists::NoLists => Answered::NoText,
-    }
+    let e = lent_lists::lists_in(s)?;
+    Some(lent_answers::put_lent(out, at, is_table, s, e))
 }
 
 // The answer to what stands behind `plane` or `table`.
-fn answer_plane(line: &[u8], is_table: bool, text: &mut [u8], out: &mut [u8], at: usize) -> Answered
+fn answer_plane(
+    line: &[u8],
+    is_table: bool,
+    text: &mut [u8],
+    out: &mut [u8],
+    at: usize,
+) -> Option<usize>
     requires { (at + line_bytes ≤ length out.old) × (length text.old ≡ text_bytes) }
     ensures { AnsweredIn result (plane_answer is_table text_bytes line.now) out.old out.new at }
 {
-    match lines::read_text(line, text) {
-        LineText::Text(n) => answer_lent(&text[0..n], is_table, out, at),
-        LineText::Malformed => Answered::NoText,
-    }
+    let n = lines::read_text(line, text)?;
+    answer_lent(&text[0..n], is_table, out, at)
 }
 
 // What a line asks for.
@@ -124,7 +112,7 @@ fn answer_by(
     scratch: &mut [u8],
     out: &mut [u8],
     at: usize,
-) -> Answered
+) -> Option<usize>
     requires { (at + line_bytes ≤ length out.old) × (length text.old ≡ text_bytes) × (length scratch.old ≡ text_bytes) }
     ensures { AnsweredIn result (answer_by kind text_bytes rest.now) out.old out.new at }
 {
@@ -134,7 +122,7 @@ fn answer_by(
         Kind::Plane => answer_plane(rest, false, text, out, at),
         Kind::Sheet => answer_sheet(rest, text, out, at),
         Kind::Table => answer_plane(rest, true, text, out, at),
-        Kind::Unknown => Answered::NoText,
+        Kind::Unknown => None,
     }
 }
 
@@ -145,13 +133,13 @@ fn answer_line(
     scratch: &mut [u8],
     out: &mut [u8],
     at: usize,
-) -> Answered
+) -> Option<usize>
     requires { (at + line_bytes ≤ length out.old) × (length text.old ≡ text_bytes) × (length scratch.old ≡ text_bytes) }
     ensures { AnsweredIn result (answer_of text_bytes line.now) out.old out.new at }
 {
     let end = lines::find(line, 0, 0x20);
     if end == line.len() {
-        return Answered::NoText;
+        return None;
     }
     let start = end + 1;
     let kind = kind_of(&line[0..end]);
@@ -171,6 +159,7 @@ fn answer_lines(input: &[u8], text: &mut [u8], scratch: &mut [u8], out: &mut [u8
 {
     let mut at: usize = 0;
     let mut n: usize = 0;
+    // No `for`: each turn goes on by a line.
     while at < input.len() {
         let end = lines::find(input, at, 0x0A);
         if end == input.len() {
@@ -180,11 +169,11 @@ fn answer_lines(input: &[u8], text: &mut [u8], scratch: &mut [u8], out: &mut [u8
             return Progress(at, n, true);
         }
         match answer_line(&input[at..end], text, scratch, out, n) {
-            Answered::Upto(m) => {
+            Some(m) => {
                 n = m;
                 at = end + 1;
             }
-            Answered::NoText => {
+            None => {
                 return Progress(at, n, false);
             }
         }
@@ -197,10 +186,8 @@ fn shift(input: &mut [u8], at: usize, end: usize)
     requires { (at ≤ end) × (end ≤ length input.old) }
     ensures { take (end - at) input.new ≡ take (end - at) (drop at input.old) }
 {
-    let mut i = 0;
-    while i < end - at {
+    for i in 0..end - at {
         input[i] = input[at + i];
-        i += 1;
     }
 }
 
@@ -256,7 +243,7 @@ fn goes_on(got: usize, at: usize, is_good: bool, is_written: bool) -> bool {
     0 < got || 0 < at
 }
 
-// What waits at the end is no line to answer. (A proved loop has to end, so it counts its turns down.)
+// What waits at the end is no line to answer. (A proved loop has to end, so its turns are counted.)
 fn replay<R: Read, W: Write>(
     reader: &mut R,
     writer: &mut W,
@@ -268,14 +255,12 @@ fn replay<R: Read, W: Write>(
     requires { (length text.old ≡ text_bytes) × (length scratch.old ≡ text_bytes) }
 {
     let mut count: usize = 0;
-    let mut turns = u64::MAX;
-    while 0 < turns {
+    for _ in 0..u64::MAX {
         let w = replay_some(reader, writer, input, text, scratch, out, count);
         if !w.is_open {
             return end_with(writer, w.count);
         }
         count = w.count;
-        turns -= 1;
     }
     Ok(())
 }

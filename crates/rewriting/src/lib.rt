@@ -14,6 +14,7 @@ pub fn measure(s: &[u8], p: &[u8], q: &[u8], t: &[usize], n: usize) -> usize
 {
     let mut i: usize = 0;
     let mut size: usize = 0;
+    // No `for`: each turn goes on behind the next text that is replaced.
     while i < s.len() {
         let r = search::find(s, i, p, t, n);
         size += r - i;
@@ -43,6 +44,7 @@ pub fn rewrite(
 {
     let mut i: usize = 0;
     let mut end = at;
+    // No `for`: each turn goes on behind the next text that is replaced.
     while i < s.len() {
         let r = search::find(s, i, p, t, n);
         lists::put_bytes(out, end, &s[i..r]);

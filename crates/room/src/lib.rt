@@ -2,27 +2,19 @@
 #![tactic(auto)]
 
 ghost use Rattle.std.specs.Prelude.{◌≡◌, length};
-ghost use Rattle.room.specs.Room.{room_from, room_in};
+ghost use Rattle.room.specs.Room.{room_from};
 
 use model::Refusal;
 
-#[derive(Clone, Copy)]
-pub enum WorkSlices {
-    Enough,
-    Short(Refusal),
-}
-
 // Slice by slice, a length against its constant.
-pub fn work_slices(lens: &[usize], sizes: &[usize]) -> WorkSlices
+pub fn work_slices(lens: &[usize], sizes: &[usize]) -> Result<(), Refusal>
     requires { length lens.now ≡ length sizes.now }
-    ensures { room_in result ≡ room_from 0 lens.now sizes.now }
+    ensures { result ≡ room_from 0 lens.now sizes.now }
 {
-    let mut i = 0;
-    while i < lens.len() {
+    for i in 0..lens.len() {
         if lens[i] < sizes[i] {
-            return WorkSlices::Short(Refusal::WorkSliceShort(i, sizes[i]));
+            return Err(Refusal::WorkSliceShort(i, sizes[i]));
         }
-        i += 1;
     }
-    WorkSlices::Enough
+    Ok(())
 }

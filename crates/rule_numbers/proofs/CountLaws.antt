@@ -1,13 +1,12 @@
 -- Counting along a line.
+use Rattle.std.specs.Prelude.{Ok, Err, None, Some}
 use mathlib.Core.Path.{◌≡◌, refl, sym, ◌∙◌}
 use mathlib.Core.Bool.{Bool}
 use mathlib.Core.List.{List}
-use mathlib.Core.Option.{none, some}
 use Prim.Native.Nat.{ℕ, ◌+◌, ◌≤◌, ◌<◌}
 use native.Mathlib.Omega.{arith}
 use lib.ListN.{drop}
 use borrow.Author.Tests.{eq-eqb, ne_eqb}
-use Rattle.lists.specs.Answer.{ok, refused}
 use Rattle.model.specs.declared.Cell.{Cell}
 use Rattle.model.specs.declared.Refusal.TheVariants.{PlaneMalformed, InvalidRuleNumber}
 use Rattle.rule_numbers.specs.Numbering.{number_in, counted}
@@ -24,22 +23,22 @@ pub count-start : (text : ℕ → List ℕ) (d : List ℕ) (down : Bool) (row n 
 count-start text d down row n from h = record { within = h; few = omega arith; rest = refl }
 
 module _ {text : ℕ → List ℕ} {d : List ℕ} {down : Bool} {row n from k m : ℕ} (p : Counts text d down row n from k m) where
-  pub count_end : n ≤ k → ok m ≡ counted text 0 (drop from (line_of d down row n))
+  pub count_end : n ≤ k → Ok m ≡ counted text 0 (drop from (line_of d down row n))
   unfolding counted
   count_end h = sym (p.rest ∙ rw (line_end d down row n k h))
 
   module _ (h : k < n) where
-    pub count_missing : none ≡ slot_of d down row k → refused PlaneMalformed ≡ counted text 0 (drop from (line_of d down row n))
+    pub count_missing : None ≡ slot_of d down row k → Err PlaneMalformed ≡ counted text 0 (drop from (line_of d down row n))
     unfolding counted
     count_missing e = sym (p.rest ∙ rw (line_at d down row n k h, sym e))
 
-    module _ (c : Cell) (e : some c ≡ slot_of d down row k) where
-      pub count_other : none ≡ number_in text c → ok 0 ≡ counted text 0 (drop from (line_of d down row n))
+    module _ (c : Cell) (e : Some c ≡ slot_of d down row k) where
+      pub count_other : None ≡ number_in text c → Ok 0 ≡ counted text 0 (drop from (line_of d down row n))
       unfolding counted
       count_other q = sym (p.rest ∙ rw (line_at d down row n k h, sym e, sym q))
 
-      module _ (x : ℕ) (q : some x ≡ number_in text c) where
-        pub count_wrong : (x ≡ m + 1 → ⊥) → refused (InvalidRuleNumber x) ≡ counted text 0 (drop from (line_of d down row n))
+      module _ (x : ℕ) (q : Some x ≡ number_in text c) where
+        pub count_wrong : (x ≡ m + 1 → ⊥) → Err (InvalidRuleNumber x) ≡ counted text 0 (drop from (line_of d down row n))
         unfolding counted
         count_wrong t = sym (p.rest ∙ rw (line_at d down row n k h, sym e, sym q, ne_eqb x (m + 1) t))
 

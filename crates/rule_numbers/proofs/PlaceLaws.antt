@@ -1,12 +1,11 @@
 -- Looking along a line for the first cell of a kind.
+use Rattle.std.specs.Prelude.{Ok, Err, None, Some}
 use mathlib.Core.Path.{◌≡◌, refl, sym, ◌∙◌}
 use mathlib.Core.Bool.{Bool, true, false}
 use mathlib.Core.List.{List}
-use mathlib.Core.Option.{none, some}
 use Prim.Native.Nat.{ℕ, ◌+◌, ◌≤◌, ◌<◌}
 use native.Mathlib.Omega.{arith}
 use lib.ListN.{drop}
-use Rattle.lists.specs.Answer.{ok, refused}
 use Rattle.model.specs.Cells.{same_kind}
 use Rattle.model.specs.declared.Cell.{Cell}
 use Rattle.model.specs.declared.Refusal.TheVariants.{PlaneMalformed}
@@ -23,17 +22,17 @@ pub look_start : (d : List ℕ) (down : Bool) (row n : ℕ) (kind : Cell) → Lo
 look_start d down row n kind = record { within = omega arith; rest = refl }
 
 module _ {d : List ℕ} {down : Bool} {row n : ℕ} {kind : Cell} {k : ℕ} (p : Looked d down row n kind k) where
-  pub look_end : n ≤ k → refused PlaneMalformed ≡ place_behind kind 0 (line_of d down row n)
+  pub look_end : n ≤ k → Err PlaneMalformed ≡ place_behind kind 0 (line_of d down row n)
   unfolding place_behind
   look_end h = sym (p.rest ∙ rw (line_end d down row n k h))
 
   module _ (h : k < n) where
-    pub look_missing : none ≡ slot_of d down row k → refused PlaneMalformed ≡ place_behind kind 0 (line_of d down row n)
+    pub look_missing : None ≡ slot_of d down row k → Err PlaneMalformed ≡ place_behind kind 0 (line_of d down row n)
     unfolding place_behind
     look_missing e = sym (p.rest ∙ rw (line_at d down row n k h, sym e))
 
-    module _ (c : Cell) (e : some c ≡ slot_of d down row k) where
-      pub look_found : same_kind kind c ≡ true → ok (k + 1) ≡ place_behind kind 0 (line_of d down row n)
+    module _ (c : Cell) (e : Some c ≡ slot_of d down row k) where
+      pub look_found : same_kind kind c ≡ true → Ok (k + 1) ≡ place_behind kind 0 (line_of d down row n)
       unfolding place_behind
       look_found t = sym (p.rest ∙ rw (line_at d down row n k h, sym e, t))
 

@@ -1,8 +1,8 @@
 -- The texts of regions lie in the bytes.
+use Rattle.std.specs.Prelude.{Some}
 use mathlib.Core.Path.{◌≡◌, refl, sym, ap, ◌∙◌}
 use mathlib.Core.Bool.{Bool, true, false}
 use mathlib.Core.List.{List}
-use mathlib.Core.Option.{some}
 use Prim.Native.Nat.{ℕ, ◌+◌, ◌*◌, ◌≤◌, ◌<◌}
 use native.Mathlib.Omega.{arith}
 use lib.Dec.{ltb}
@@ -22,7 +22,7 @@ use Rattle.rule_numbers.specs.Line.{slot_of}
 use Rattle.rule_numbers.specs.Told.{LineHeld, PartIn}
 
 -- of a cell's region
-pub part_room : (c : Cell) {k : ℕ} → some k ≡ region_of c → {bytes spans : List ℕ} {n : ℕ} → PartIn c bytes spans n
+pub part_room : (c : Cell) {k : ℕ} → Some k ≡ region_of c → {bytes spans : List ℕ} {n : ℕ} → PartIn c bytes spans n
     → (k * 2 + 2 ≤ length spans) × (offset_at spans k + length_at spans k ≤ length bytes)
 part_room c {k} e p =
     let l = p.region k (region-is c k (sym e)) in
@@ -30,12 +30,12 @@ part_room c {k} e p =
     (omega arith, p.inside k l)
 
 -- the text that is read there
-pub part_text : (c : Cell) {k : ℕ} → some k ≡ region_of c → {bytes spans : List ℕ} {n : ℕ} → PartIn c bytes spans n → text_at bytes spans k ≡ text_in bytes spans n k
+pub part_text : (c : Cell) {k : ℕ} → Some k ≡ region_of c → {bytes spans : List ℕ} {n : ℕ} → PartIn c bytes spans n → text_at bytes spans k ≡ text_in bytes spans n k
 part_text c {k} e {bytes} {spans} {n} p = sym (text_in_lem bytes spans n k (p.region k (region-is c k (sym e))))
 
 module _ {plane : List ℕ} {n : ℕ} {bytes spans : List ℕ} {regions : ℕ} (p : Held plane n bytes spans regions) where
   -- a cell of a plane
-  pub cell_part : (row k : ℕ) (c : Cell) → row < n → some c ≡ slot_of plane false row k → PartIn c bytes spans regions
+  pub cell_part : (row k : ℕ) (c : Cell) → row < n → Some c ≡ slot_of plane false row k → PartIn c bytes spans regions
   cell_part row k c h e =
       let s = choose-some (ltb k (get_or plane row 0)) (cell_at plane row k) c (sym e) in
       record {
@@ -45,7 +45,7 @@ module _ {plane : List ℕ} {n : ℕ} {bytes spans : List ℕ} {regions : ℕ} (
       }
 
   line-held : (down : Bool) (line w : ℕ) → line < plane_rows → w ≤ plane_rows
-      → ((k : ℕ) (c : Cell) → k < w → some c ≡ slot_of plane down line k → PartIn c bytes spans regions) → LineHeld plane down line w bytes spans regions
+      → ((k : ℕ) (c : Cell) → k < w → Some c ≡ slot_of plane down line k → PartIn c bytes spans regions) → LineHeld plane down line w bytes spans regions
   line-held down line w r f g =
       record {
         room = p.fits.room;
@@ -64,5 +64,5 @@ module _ {plane : List ℕ} {n : ℕ} {bytes spans : List ℕ} {regions : ℕ} (
 
 -- a cell of a line
 pub line_part : {plane : List ℕ} {down : Bool} {row n : ℕ} {bytes spans : List ℕ} {regions : ℕ} → LineHeld plane down row n bytes spans regions
-    → (k : ℕ) (c : Cell) → k < n → some c ≡ slot_of plane down row k → PartIn c bytes spans regions
-line_part p k c l e = record { region = λ r q. p.regions k r l (sym e ∙ ap some q); two_each = p.two_each; inside = p.inside }
+    → (k : ℕ) (c : Cell) → k < n → Some c ≡ slot_of plane down row k → PartIn c bytes spans regions
+line_part p k c l e = record { region = λ r q. p.regions k r l (sym e ∙ ap Some q); two_each = p.two_each; inside = p.inside }

@@ -1,6 +1,5 @@
 -- A line of a plane in a slice: column 0, or a row; a cell that is not there is missing.
-use Rattle.std.specs.Prelude.{Bool, true, false, List, ℕ, ltb, get_or}
-use Rattle.std.proofs.Math.Option.{Option, none, some}
+use Rattle.std.specs.Prelude.{Bool, true, false, List, ℕ, ltb, get_or, Option, None, Some}
 use Rattle.lists.specs.Choose.{choose}
 use Rattle.lists.specs.Run.{build}
 use Rattle.model.specs.declared.Cell.{Cell}
@@ -8,8 +7,8 @@ use Rattle.cells.specs.Plane.{cell_at}
 
 -- the cell in row k of column 0, or in column k of a row
 abbrev pub slot_of : List ℕ → Bool → ℕ → ℕ → Option Cell
-slot_of d true row k = choose (ltb 0 (get_or d k 0)) (some (cell_at d k 0)) none
-slot_of d false row k = choose (ltb k (get_or d row 0)) (some (cell_at d row k)) none
+slot_of d true row k = choose (ltb 0 (get_or d k 0)) (Some (cell_at d k 0)) None
+slot_of d false row k = choose (ltb k (get_or d row 0)) (Some (cell_at d row k)) None
 
 -- the first n of them
 unfoldable pub line_of : List ℕ → Bool → ℕ → ℕ → List (Option Cell)

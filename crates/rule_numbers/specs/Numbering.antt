@@ -1,7 +1,6 @@
 -- The rule numbers of a plane: document 01, "Placement and upright sheet", and plane.rs of the Rust.
-use Rattle.std.specs.Prelude.{List, [], ◌∷◌, map, ℕ, ◌+◌, eqb, ltb, drop}
-use Rattle.std.proofs.Math.Option.{Option, none, some}
-use Rattle.lists.specs.Answer.{ok, refused, ◌>>=◌}
+use Rattle.std.specs.Prelude.{List, [], ◌∷◌, map, ℕ, ◌+◌, eqb, ltb, drop, Option, None, Some, Ok, Err}
+use Rattle.lists.specs.Answer.{◌>>=◌}
 use Rattle.lists.specs.Choose.{choose, on_some}
 use Rattle.model.specs.Cells.{region_of, same_kind}
 use Rattle.model.specs.Refusals.{Reading}
@@ -15,37 +14,37 @@ use Rattle.cells.specs.Plane.{Plane}
 
 -- the first of a list, if there is one
 abbrev pub first : {A : Type 0} → List A → Option A
-first [] = none
-first (a ∷ s) = some a
+first [] = None
+first (a ∷ s) = Some a
 
 unfoldable pub last : {A : Type 0} → List A → Option A
-last [] = none
-last (a ∷ []) = some a
+last [] = None
+last (a ∷ []) = Some a
 last (a ∷ b ∷ s) = last (b ∷ s)
 
 -- the place behind the first cell of a kind, counted from i; a cell that is missing is 10
 unfoldable pub place_behind : Cell → ℕ → List (Option Cell) → Reading ℕ
-place_behind k i [] = refused PlaneMalformed
-place_behind k i (none ∷ line) = refused PlaneMalformed
-place_behind k i (some c ∷ line) = choose (same_kind k c) (ok (i + 1)) (place_behind k (i + 1) line)
+place_behind k i [] = Err PlaneMalformed
+place_behind k i (None ∷ line) = Err PlaneMalformed
+place_behind k i (Some c ∷ line) = choose (same_kind k c) (Ok (i + 1)) (place_behind k (i + 1) line)
 
 -- numbers right after, if there are any
 abbrev pub right_of : Reading ℕ → Reading RuleNumbersPlacement
 right_of m = do
   r ← m
-  ok (choose (ltb 0 r) (numbers.RightAfter r) numbers.NotPresent)
+  Ok (choose (ltb 0 r) (numbers.RightAfter r) numbers.NotPresent)
 
 -- the text of each region, trimmed
 module _ (text : ℕ → List ℕ) where
   abbrev pub number_in : Cell → Option ℕ
-  number_in c = on_some (region_of c) (λ r. number_of (text r)) none
+  number_in c = on_some (region_of c) (λ r. number_of (text r)) None
 
   -- the numbers n + 1, n + 2, .. up to a line's end: the last of them, or 0 where something else stands. 11 tells another number, and a
   -- cell that is missing is 10
   unfoldable pub counted : ℕ → List (Option Cell) → Reading ℕ
-  counted n [] = ok n
-  counted n (none ∷ line) = refused PlaneMalformed
-  counted n (some c ∷ line) = on_some (number_in c) (λ m. choose (eqb m (n + 1)) (counted (n + 1) line) (refused (InvalidRuleNumber m))) (ok 0)
+  counted n [] = Ok n
+  counted n (None ∷ line) = Err PlaneMalformed
+  counted n (Some c ∷ line) = on_some (number_in c) (λ m. choose (eqb m (n + 1)) (counted (n + 1) line) (Err (InvalidRuleNumber m))) (Ok 0)
 
   -- the numbers behind the first cell of a kind
   abbrev pub counted_behind : Cell → List (Option Cell) → Reading ℕ
@@ -59,10 +58,10 @@ module _ (text : ℕ → List ℕ) where
 
   -- along the last row, right of the double line
   abbrev pub numbers_right : Plane → Reading ℕ
-  numbers_right P = counted_behind VerticalOutputDoubleLine (on_some (last P) (map some) [])
+  numbers_right P = counted_behind VerticalOutputDoubleLine (on_some (last P) (map Some) [])
 
   -- left below, or else right after
   unfoldable pub rule_numbers_of : Plane → Reading RuleNumbersPlacement
   rule_numbers_of P = do
     l ← numbers_left P
-    choose (ltb 0 l) (ok (numbers.LeftBelow l)) (right_of (numbers_right P))
+    choose (ltb 0 l) (Ok (numbers.LeftBelow l)) (right_of (numbers_right P))

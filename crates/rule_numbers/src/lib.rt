@@ -3,84 +3,60 @@
 
 ghost use Rattle.std.specs.Prelude.{◌≡◌, ◌≤◌, ◌<◌, length, drop};
 ghost use Rattle.model.specs.Limits.{plane_rows, plane_size};
-ghost use Rattle.numerals.specs.RuleNumbers.{number_found};
 ghost use Rattle.cells.specs.Plane.{plane_in};
 ghost use Rattle.cells.specs.Held.{Held};
 ghost use Rattle.cells.specs.Spans.{text_in};
 ghost use Rattle.rule_numbers.specs.Numbering.{number_in, place_behind, counted, counted_behind, numbers_right, right_of, rule_numbers_of};
 ghost use Rattle.rule_numbers.specs.Line.{line_of, slot_of};
-ghost use Rattle.rule_numbers.specs.Told.{LineHeld, PartIn, slot_in, place_in, PlaceFits, count_in, numbered_in};
+ghost use Rattle.rule_numbers.specs.Told.{LineHeld, PartIn, PlaceFits};
 
-use model::{Cell, CellRegion, Refusal, RuleNumbersPlacement};
-use numerals::RuleNumber;
+use model::{Cell, Refusal, RuleNumbersPlacement};
 
 // The number that the text of a cell's region is.
-fn number_in(c: Cell, bytes: &[u8], spans: &[u32], count: usize) -> RuleNumber
+fn number_in(c: Cell, bytes: &[u8], spans: &[u32], count: usize) -> Option<u64>
     requires { PartIn c bytes.now spans.now count }
-    ensures { number_found result ≡ number_in (text_in bytes.now spans.now count) c }
+    ensures { result ≡ number_in (text_in bytes.now spans.now count) c }
 {
-    match model::region_of(c) {
-        CellRegion::Number(k) => numerals::rule_number(cells::text_at(bytes, spans, k)),
-        CellRegion::NoRegion => RuleNumber::NoNumber,
-    }
-}
-
-// A place of a line: a cell, or none.
-#[derive(Clone, Copy)]
-pub enum Slot {
-    Filled(Cell),
-    Missing,
+    let k = c.region()?;
+    numerals::rule_number(cells::text_at(bytes, spans, k))
 }
 
 // The cell in row k of column 0, or in column k of a row.
-pub fn slot_at(plane: &[u32], down: bool, row: usize, k: usize) -> Slot
+pub fn slot_at(plane: &[u32], down: bool, row: usize, k: usize) -> Option<Cell>
     requires { (row < plane_rows) × (k < plane_rows) × (plane_size ≤ length plane.now) }
-    ensures { slot_in result ≡ slot_of plane.now down row k }
+    ensures { result ≡ slot_of plane.now down row k }
 {
     if down {
         if 0 < plane[k] {
-            return Slot::Filled(cells::cell_at(plane, k, 0));
+            return Some(cells::cell_at(plane, k, 0));
         }
-        return Slot::Missing;
+        return None;
     }
     if k < plane[row] as usize {
-        return Slot::Filled(cells::cell_at(plane, row, k));
+        return Some(cells::cell_at(plane, row, k));
     }
-    Slot::Missing
-}
-
-// The place behind a cell of a line, or why there is none.
-#[derive(Clone, Copy)]
-enum Place {
-    Behind(usize),
-    NoPlace(Refusal),
+    None
 }
 
 // The place behind the first cell of a kind in a line of n.
-fn place_behind(plane: &[u32], down: bool, row: usize, n: usize, kind: Cell) -> Place
+fn place_behind(
+    plane: &[u32],
+    down: bool,
+    row: usize,
+    n: usize,
+    kind: Cell,
+) -> Result<usize, Refusal>
     requires { (row < plane_rows) × (n ≤ plane_rows) × (plane_size ≤ length plane.now) }
-    ensures place { place_in result ≡ place_behind kind 0 (line_of plane.now down row n) }
+    ensures place { result ≡ place_behind kind 0 (line_of plane.now down row n) }
     ensures inside { PlaceFits result n }
 {
-    let mut k = 0;
-    while k < n {
-        let c = match slot_at(plane, down, row, k) {
-            Slot::Filled(c) => c,
-            Slot::Missing => return Place::NoPlace(Refusal::PlaneMalformed),
-        };
-        k += 1;
-        if model::same_kind(kind, c) {
-            return Place::Behind(k);
+    for k in 0..n {
+        let c = slot_at(plane, down, row, k).ok_or(Refusal::PlaneMalformed)?;
+        if kind.is_same_kind(c) {
+            return Ok(k + 1);
         }
     }
-    Place::NoPlace(Refusal::PlaneMalformed)
-}
-
-// The last of the rule numbers of a line, 0 where there are none, or a refusal.
-#[derive(Clone, Copy)]
-enum Count {
-    Upto(u64),
-    NotCounted(Refusal),
+    Err(Refusal::PlaneMalformed)
 }
 
 // The rule numbers of a line of n, from a place on.
@@ -93,28 +69,22 @@ fn count_numbers(
     row: usize,
     n: usize,
     from: usize,
-) -> Count
+) -> Result<u64, Refusal>
     requires { LineHeld plane.now down row n bytes.now spans.now count × (from ≤ n) }
-    ensures { count_in result ≡ counted (text_in bytes.now spans.now count) 0 (drop from (line_of plane.now down row n)) }
+    ensures { result ≡ counted (text_in bytes.now spans.now count) 0 (drop from (line_of plane.now down row n)) }
 {
-    let mut k = from;
     let mut m: u64 = 0;
-    while k < n {
-        let c = match slot_at(plane, down, row, k) {
-            Slot::Filled(c) => c,
-            Slot::Missing => return Count::NotCounted(Refusal::PlaneMalformed),
-        };
-        let x = match number_in(c, bytes, spans, count) {
-            RuleNumber::Number(x) => x,
-            RuleNumber::NoNumber => return Count::Upto(0),
+    for k in from..n {
+        let c = slot_at(plane, down, row, k).ok_or(Refusal::PlaneMalformed)?;
+        let Some(x) = number_in(c, bytes, spans, count) else {
+            return Ok(0);
         };
         if x != m + 1 {
-            return Count::NotCounted(Refusal::InvalidRuleNumber(x));
+            return Err(Refusal::InvalidRuleNumber(x));
         }
         m = x;
-        k += 1;
     }
-    Count::Upto(m)
+    Ok(m)
 }
 
 // The rule numbers behind the first cell of a kind in a line of n.
@@ -127,29 +97,27 @@ fn count_behind(
     row: usize,
     n: usize,
     kind: Cell,
-) -> Count
+) -> Result<u64, Refusal>
     requires { LineHeld plane.now down row n bytes.now spans.now count }
-    ensures { count_in result ≡ counted_behind (text_in bytes.now spans.now count) kind (line_of plane.now down row n) }
+    ensures { result ≡ counted_behind (text_in bytes.now spans.now count) kind (line_of plane.now down row n) }
 {
-    match place_behind(plane, down, row, n, kind) {
-        Place::Behind(k) => count_numbers(plane, bytes, spans, count, down, row, n, k),
-        Place::NoPlace(r) => Count::NotCounted(r),
-    }
-}
-
-#[derive(Clone, Copy)]
-pub enum Numbered {
-    Numbers(RuleNumbersPlacement),
-    NotNumbered(Refusal),
+    let k = place_behind(plane, down, row, n, kind)?;
+    count_numbers(plane, bytes, spans, count, down, row, n, k)
 }
 
 // Rule numbers along the last row.
-fn numbers_right(plane: &[u32], n: usize, bytes: &[u8], spans: &[u32], count: usize) -> Numbered
+fn numbers_right(
+    plane: &[u32],
+    n: usize,
+    bytes: &[u8],
+    spans: &[u32],
+    count: usize,
+) -> Result<RuleNumbersPlacement, Refusal>
     requires { Held plane.now n bytes.now spans.now count × (0 < n) }
-    ensures { numbered_in result ≡ right_of (numbers_right (text_in bytes.now spans.now count) (plane_in plane.now n)) }
+    ensures { result ≡ right_of (numbers_right (text_in bytes.now spans.now count) (plane_in plane.now n)) }
 {
     let width = plane[n - 1] as usize;
-    match count_behind(
+    let m = count_behind(
         plane,
         bytes,
         spans,
@@ -158,23 +126,25 @@ fn numbers_right(plane: &[u32], n: usize, bytes: &[u8], spans: &[u32], count: us
         n - 1,
         width,
         Cell::VerticalOutputDoubleLine,
-    ) {
-        Count::Upto(m) => {
-            if 0 < m {
-                return Numbered::Numbers(RuleNumbersPlacement::RightAfter(m));
-            }
-            Numbered::Numbers(RuleNumbersPlacement::NotPresent)
-        }
-        Count::NotCounted(r) => Numbered::NotNumbered(r),
+    )?;
+    if 0 < m {
+        return Ok(RuleNumbersPlacement::RightAfter(m));
     }
+    Ok(RuleNumbersPlacement::NotPresent)
 }
 
 // Rule numbers down column 0, or else along the last row.
-pub fn rule_numbers(plane: &[u32], n: usize, bytes: &[u8], spans: &[u32], count: usize) -> Numbered
+pub fn rule_numbers(
+    plane: &[u32],
+    n: usize,
+    bytes: &[u8],
+    spans: &[u32],
+    count: usize,
+) -> Result<RuleNumbersPlacement, Refusal>
     requires { Held plane.now n bytes.now spans.now count × (0 < n) }
-    ensures { numbered_in result ≡ rule_numbers_of (text_in bytes.now spans.now count) (plane_in plane.now n) }
+    ensures { result ≡ rule_numbers_of (text_in bytes.now spans.now count) (plane_in plane.now n) }
 {
-    match count_behind(
+    let m = count_behind(
         plane,
         bytes,
         spans,
@@ -183,13 +153,9 @@ pub fn rule_numbers(plane: &[u32], n: usize, bytes: &[u8], spans: &[u32], count:
         0,
         n,
         Cell::HorizontalOutputDoubleLine,
-    ) {
-        Count::Upto(m) => {
-            if 0 < m {
-                return Numbered::Numbers(RuleNumbersPlacement::LeftBelow(m));
-            }
-            numbers_right(plane, n, bytes, spans, count)
-        }
-        Count::NotCounted(r) => Numbered::NotNumbered(r),
+    )?;
+    if 0 < m {
+        return Ok(RuleNumbersPlacement::LeftBelow(m));
     }
+    numbers_right(plane, n, bytes, spans, count)
 }

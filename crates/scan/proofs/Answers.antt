@@ -1,4 +1,5 @@
 -- The answers of `scan`, from where the sheet starts and what it measures, and what they tell a caller.
+use Rattle.std.specs.Prelude.{Ok, Err}
 use mathlib.Core.Path.{◌≡◌, sym, ap, ◌∙◌}
 use mathlib.Core.Bool.{true, false, and-false}
 use mathlib.Core.List.{List, map}
@@ -12,23 +13,23 @@ use Rattle.lists.specs.Put.{put}
 use Rattle.lists.proofs.AnswerLaws.{refused-ok}
 use Rattle.lists.proofs.Tests.{by_flag, both}
 use Rattle.model.specs.Limits.{canvas_rows, canvas_columns, canvas_size}
+use Rattle.model.specs.Refusals.{Reading}
 use Rattle.model.specs.declared.Refusal.TheVariants.{CanvasTooLarge}
 use Rattle.utf8.specs.Utf8.{SameCheck}
 use Rattle.sheet_rows.specs.Found.{StartAt, Measured, rows_in, Counted, Kept}
 use Rattle.sheet_rows.specs.Rows.{rows_at, widest}
 use Rattle.scan.specs.Canvas.{Size, fits, size_of, text_in, blanks_in, scanned_in, Ended, ValidIn}
 use Rattle.scan.specs.Rows.{blank, flat}
-use Rattle.scan.specs.declared.Scanned.{Scanned}
-use Rattle.scan.specs.declared.Scanned.TheVariants.{Canvas, NotScanned}
+use Rattle.scan.specs.declared.Canvas.{Canvas}
 
 -- an answered canvas has the size of the rows, and they fit
-pub scanned_size : (rs : List (List ℕ)) (h w e v : ℕ) → scanned_in (Canvas h w e v) ≡ size_of rs → (fits rs ≡ true) × (h ≡ length rs) × (w ≡ widest rs)
+pub scanned_size : (rs : List (List ℕ)) (c : Canvas) → scanned_in (Ok c) ≡ size_of rs → (fits rs ≡ true) × (c.rows ≡ length rs) × (c.columns ≡ widest rs)
 unfolding size_of
-scanned_size rs h w e v q =
+scanned_size rs c q =
     by_flag (fits rs)
     (λ f.
     let k = rw f at q in
-    let z : ◌≡◌ {A = Size} (record { height = h; width = w }) (record { height = length rs; width = widest rs }) = cc in
+    let z : ◌≡◌ {A = Size} (record { height = c.rows; width = c.columns }) (record { height = length rs; width = widest rs }) = cc in
     (f, ap (λ (x : Size). x.height) z, ap (λ (x : Size). x.width) z))
     (λ f. refused-ok (sym (rw f at q)))
 
@@ -40,7 +41,7 @@ fits-size rs f =
     (w, h, mul-le-mul h w)
 
 -- what `scan` promises of the answer r, where TEXT was d and is o, and BODY was b and is p
-abbrev Answered : List ℕ → ℕ → List ℕ → List ℕ → Scanned → List ℕ → List ℕ → Type 0
+abbrev Answered : List ℕ → ℕ → List ℕ → List ℕ → Reading Canvas → List ℕ → List ℕ → Type 0
 Answered s from d b r o p =
     (scanned_in r ≡ size_of (rows_at s from)) × (Ended r s from × (ValidIn r s from × ((o ≡ text_in (rows_at s from) d) × (p ≡ blanks_in (rows_at s from) b))))
 
@@ -52,14 +53,14 @@ module _ {s : List ℕ} {from at rows columns end : ℕ} (i : StartAt s from at)
   width = m.width ∙ ap widest (sym i.same)
 
   module _ (d b : List ℕ) where
-    large : fits (rows_at s from) ≡ false → Answered s from d b (NotScanned (CanvasTooLarge rows columns)) d b
+    large : fits (rows_at s from) ≡ false → Answered s from d b (Err (CanvasTooLarge rows columns)) d b
     unfolding size_of text_in blanks_in
     large f = (rw (f, ← height, ← width), (tt, (tt, (rw f, rw f))))
 
-    pub scan_rows : canvas_rows < rows → Answered s from d b (NotScanned (CanvasTooLarge rows columns)) d b
+    pub scan_rows : canvas_rows < rows → Answered s from d b (Err (CanvasTooLarge rows columns)) d b
     scan_rows h = large (rw (← height, lt-leb rows canvas_rows h))
 
-    pub scan_columns : canvas_columns < columns → Answered s from d b (NotScanned (CanvasTooLarge rows columns)) d b
+    pub scan_columns : canvas_columns < columns → Answered s from d b (Err (CanvasTooLarge rows columns)) d b
     scan_columns h = large (rw (← width, lt-leb columns canvas_columns h) (and-false (leb (length (rows_at s from)) canvas_rows)))
 
     module _ (h : rows ≤ canvas_rows) (k : columns ≤ canvas_columns) {lines : List ℕ} (q : Kept s at lines rows) where
@@ -73,7 +74,7 @@ module _ {s : List ℕ} {from at rows columns end : ℕ} (i : StartAt s from at)
       fitting = rw (← height, ← width, le-leb rows canvas_rows h, le-leb columns canvas_columns k)
 
       pub scan_canvas : (valid : ℕ) {o p : List ℕ} → SameCheck s from valid → (o ≡ put d 0 (flat columns (rows_in s lines rows))) × (p ≡ put b 0 (flat columns (map blank (rows_in s lines rows))))
-          → Answered s from d b (Canvas rows columns end valid) o p
+          → Answered s from d b (Ok (record { rows = rows; columns = columns; end = end; valid = valid })) o p
       unfolding size_of text_in blanks_in
       scan_canvas valid v w =
           let e : rows_in s lines rows ≡ rows_at s from = q.same ∙ sym i.same in (

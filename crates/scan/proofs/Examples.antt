@@ -1,9 +1,9 @@
 -- Examples of the scan, by computation.
+use Rattle.std.specs.Prelude.{Ok}
 use mathlib.Core.Path.{◌≡◌, refl}
 use mathlib.Core.List.{List, [], ◌∷◌}
 use Prim.Native.Nat.{ℕ}
 use lib.ListN.{replicate}
-use Rattle.lists.specs.Answer.{ok}
 use Rattle.lists.specs.Put.{put}
 use Rattle.model.specs.Box.{─, │, ┌, ┐, └, ┘, ░}
 use Rattle.white_space.specs.Lines.{lines, texts, after, last_of}
@@ -16,12 +16,12 @@ use Rattle.scan.specs.Canvas.{size_of, blanks_in}
 use Rattle.scan.specs.Rows.{flat}
 
 -- no bytes: a canvas of no rows and no columns
-pub no_bytes : size_of (rows_at [] 0) ≡ ok (record { height = 0; width = 0 })
+pub no_bytes : size_of (rows_at [] 0) ≡ Ok (record { height = 0; width = 0 })
 unfolding size_of collect widest lines texts read
 no_bytes = refl
 
 -- ┌ alone: one row of one column
-pub one_corner : size_of (rows_at (0xE2 ∷ 0x94 ∷ 0x8C ∷ []) 0) ≡ ok (record { height = 1; width = 1 })
+pub one_corner : size_of (rows_at (0xE2 ∷ 0x94 ∷ 0x8C ∷ []) 0) ≡ Ok (record { height = 1; width = 1 })
 unfolding size_of collect up_to widest lines texts last_of trim trim_start trim_end among read decode by more
 one_corner = refl
 

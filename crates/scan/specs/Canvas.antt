@@ -1,6 +1,5 @@
 -- What scanning a sheet answers, and what it leaves in the layers TEXT and BODY.
-use Rattle.std.specs.Prelude.{Bool, ◌&&◌, List, map, ◌≡◌, ℕ, ◌≤◌, leb, length, drop}
-use Rattle.lists.specs.Answer.{ok, refused}
+use Rattle.std.specs.Prelude.{Bool, ◌&&◌, List, map, ◌≡◌, ℕ, ◌≤◌, leb, length, drop, Ok, Err}
 use Rattle.lists.specs.Choose.{choose}
 use Rattle.lists.specs.Put.{put}
 use Rattle.model.specs.Limits.{canvas_rows, canvas_columns}
@@ -10,8 +9,7 @@ use Rattle.utf8.specs.Utf8.{codes, SameCheck}
 use Rattle.sheet_rows.specs.Rows.{widest}
 use Rattle.sheet_rows.specs.Sheet.{rest_of}
 use Rattle.scan.specs.Rows.{blank, flat}
-use Rattle.scan.specs.declared.Scanned.{Scanned}
-use Rattle.scan.specs.declared.Scanned.TheVariants.{Canvas, NotScanned}
+use Rattle.scan.specs.declared.Canvas.{Canvas}
 
 -- the size of a canvas
 pub record Size : Type 0 where
@@ -25,7 +23,7 @@ fits rs = leb (length rs) canvas_rows && leb (widest rs) canvas_columns
 -- the size of the canvas of some rows; number 2 with the full counts where it is too large
 unfoldable pub size_of : List (List ℕ) → Reading Size
 size_of rs =
-    choose (fits rs) (ok (record { height = length rs; width = widest rs })) (refused (CanvasTooLarge (length rs) (widest rs)))
+    choose (fits rs) (Ok (record { height = length rs; width = widest rs })) (Err (CanvasTooLarge (length rs) (widest rs)))
 
 -- the TEXT layer d afterwards: the rows, each filled to the longest, where the canvas fits; else as it was
 unfoldable pub text_in : List (List ℕ) → List ℕ → List ℕ
@@ -36,16 +34,16 @@ unfoldable pub blanks_in : List (List ℕ) → List ℕ → List ℕ
 blanks_in rs d = choose (fits rs) (put d 0 (flat (widest rs) (map blank rs))) d
 
 -- an answer's size
-abbrev pub scanned_in : Scanned → Reading Size
-scanned_in (Canvas height width end valid) = ok (record { height = height; width = width })
-scanned_in (NotScanned r) = refused r
+abbrev pub scanned_in : Reading Canvas → Reading Size
+scanned_in (Ok c) = Ok (record { height = c.rows; width = c.columns })
+scanned_in (Err r) = Err r
 
 -- an answer's end: the bytes from there on are those behind the sheet
-abbrev pub Ended : Scanned → List ℕ → ℕ → Type 0
-Ended (Canvas height width end valid) s at = (end ≤ length s) × (codes (drop end s) ≡ rest_of (codes (drop at s)))
-Ended (NotScanned r) s at = Unit {0}
+abbrev pub Ended : Reading Canvas → List ℕ → ℕ → Type 0
+Ended (Ok c) s at = (c.end ≤ length s) × (codes (drop c.end s) ≡ rest_of (codes (drop at s)))
+Ended (Err r) s at = Unit {0}
 
 -- an answer's check of UTF-8: it goes on where the answer says
-abbrev pub ValidIn : Scanned → List ℕ → ℕ → Type 0
-ValidIn (Canvas height width end valid) s at = SameCheck s at valid
-ValidIn (NotScanned r) s at = Unit {0}
+abbrev pub ValidIn : Reading Canvas → List ℕ → ℕ → Type 0
+ValidIn (Ok c) s at = SameCheck s at c.valid
+ValidIn (Err r) s at = Unit {0}

@@ -19,12 +19,10 @@ fn put_codes(s: &[u8], from: usize, count: usize, out: &mut [u32], base: usize)
     ensures { out.new ≡ put out.old base (codes_at s.now from count) }
 {
     let mut p = from;
-    let mut i: usize = 0;
-    while i < count {
+    for i in 0..count {
         let d = code_points::known(s, p);
         out[base + i] = d.code;
         p += d.bytes;
-        i += 1;
     }
 }
 
@@ -33,10 +31,8 @@ fn put_same(out: &mut [u32], base: usize, n: usize, code: u32)
     requires { base + n ≤ length out.old }
     ensures { out.new ≡ put out.old base (replicate n code) }
 {
-    let mut i: usize = 0;
-    while i < n {
+    for i in 0..n {
         out[base + i] = code;
-        i += 1;
     }
 }
 
@@ -73,24 +69,24 @@ fn write_rows(
     ensures text { text.new ≡ put text.old 0 (flat width (rows_in s.now lines.now rows)) }
     ensures body { body.new ≡ put body.old 0 (flat width (map blank (rows_in s.now lines.now rows))) }
 {
-    let mut r: usize = 0;
-    while r < rows {
+    for r in 0..rows {
         let from = lines[2 * r];
         let count = lines[2 * r + 1];
         put_row(s, from, count, width, text, body, r * width);
-        r += 1;
     }
 }
 
-// What a scan answers: the canvas's rows and columns, where the text behind the sheet starts and up to where the bytes are valid; or a refusal.
+// A canvas's rows and columns, where the text behind the sheet starts, and up to where the bytes are valid.
 #[derive(Clone, Copy)]
-pub enum Scanned {
-    Canvas(usize, usize, usize, usize),
-    NotScanned(Refusal),
+pub struct Canvas {
+    pub rows: usize,
+    pub columns: usize,
+    pub end: usize,
+    pub valid: usize,
 }
 
 // Scans the first sheet in a text from an index on, into the layers TEXT and BODY.
-pub fn scan(s: &[u8], from: usize, text: &mut [u32], body: &mut [u32]) -> Scanned
+pub fn scan(s: &[u8], from: usize, text: &mut [u32], body: &mut [u32]) -> Result<Canvas, Refusal>
     requires { (from ≤ length s.now) × (canvas_size ≤ length text.old) × (canvas_size ≤ length body.old) }
     ensures answer { scanned_in result ≡ size_of (rows_at s.now from) }
     ensures end { Ended result s.now from }
@@ -103,14 +99,17 @@ pub fn scan(s: &[u8], from: usize, text: &mut [u32], body: &mut [u32]) -> Scanne
     let m = sheet_rows::measure(s, start.at, start.valid, &mut lines);
     let rows = m.rows;
     let columns = m.columns;
-    let end = m.end;
-    let valid = m.valid;
     if limits::CANVAS_ROWS < rows {
-        return Scanned::NotScanned(Refusal::CanvasTooLarge(rows, columns));
+        return Err(Refusal::CanvasTooLarge(rows, columns));
     }
     if limits::CANVAS_COLUMNS < columns {
-        return Scanned::NotScanned(Refusal::CanvasTooLarge(rows, columns));
+        return Err(Refusal::CanvasTooLarge(rows, columns));
     }
     write_rows(s, &lines, rows, columns, text, body);
-    Scanned::Canvas(rows, columns, end, valid)
+    Ok(Canvas {
+        rows,
+        columns,
+        end: m.end,
+        valid: m.valid,
+    })
 }

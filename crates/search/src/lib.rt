@@ -23,13 +23,11 @@ fn shift_after(t: &[usize], n: usize, j: usize) -> Shift
     requires { 2 * n ≤ length t.now }
     ensures { (p : List ℕ) → Knows p t.now n j → Safe p j result.by result.keep }
 {
-    let mut i: usize = 0;
-    while i < n {
+    for i in 0..n {
         let e = t[2 * i];
         if covers(e, t[2 * i + 1], j) {
             return Shift { by: e, keep: j - e };
         }
-        i += 1;
     }
     Shift {
         by: j / 4 + 1,
@@ -63,6 +61,7 @@ pub fn periods_of(p: &[u8], t: &mut [usize]) -> usize
     let mut reach: usize = 1;
     let mut n: usize = 0;
     let mut top: usize = 0;
+    // No `for`: a turn may go on, or try another period at the same place.
     while reach < p.len() {
         if p[reach] == p[reach - e] {
             reach += 1;
@@ -90,6 +89,7 @@ pub fn find(s: &[u8], from: usize, p: &[u8], t: &[usize], n: usize) -> usize
 {
     let mut i = from;
     let mut j: usize = 0;
+    // No `for`: a turn goes on by a byte or by a period.
     while p.len() <= s.len() - i {
         if j == p.len() {
             return i;

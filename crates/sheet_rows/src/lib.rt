@@ -24,6 +24,7 @@ pub fn sheet_start(s: &[u8], from: usize) -> SheetStart
 {
     let mut at = from;
     let mut valid = from;
+    // No `for`: each turn goes on by a line.
     while at < s.len() {
         let l = text_lines::line_head(s, at);
         if l.first == box_drawing::LIGHT_DOWN_AND_RIGHT {
@@ -76,6 +77,7 @@ pub fn measure(s: &[u8], at: usize, valid: usize, lines: &mut [usize]) -> Extent
     let mut v = valid;
     let mut rows: usize = 0;
     let mut columns: usize = 0;
+    // No `for`: each turn goes on by a line.
     while p < s.len() {
         let l = text_lines::line_at(s, p);
         let count = l.count;

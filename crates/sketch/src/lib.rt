@@ -14,11 +14,9 @@ fn put_row(out: &mut [u8], at: usize, layer: &[u32], w: usize, h: usize, y: usiz
     requires { (at + row_bytes ≤ length out.old) × (y < h) × Layer w h layer.now }
     ensures { Written out.old out.new at (row_to (canvas w h layer.now) y w ++ (line_feed ∷ [])) row_bytes result }
 {
-    let mut x = 0;
     let mut n = at;
-    while x < w {
+    for x in 0..w {
         n = encoding::put_code(out, n, layer[y * w + x]);
-        x += 1;
     }
     print::put_word(out, n, b"\n")
 }
@@ -29,10 +27,8 @@ fn put_layer(out: &mut [u8], at: usize, title: &[u8], layer: &[u32], w: usize, h
     ensures { Written out.old out.new at (layer_lines title.now (canvas w h layer.now) w h) (length title.now + row_bytes * h) result }
 {
     let mut n = print::put_word(out, at, title);
-    let mut y = 0;
-    while y < h {
+    for y in 0..h {
         n = put_row(out, n, layer, w, h, y);
-        y += 1;
     }
     n
 }
@@ -116,10 +112,8 @@ pub fn put_regions(
     ensures { Written out.old out.new at (counted_lines (rects_of rects.now n) (texts_in bytes.now spans.now n)) region_bytes result }
 {
     let mut m = print::put_count(out, at, b"regions ", n);
-    let mut k = 0;
-    while k < n {
+    for k in 0..n {
         m = put_region(out, m, rects, bytes, spans, k);
-        k += 1;
     }
     m
 }

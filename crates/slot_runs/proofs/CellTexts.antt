@@ -1,13 +1,12 @@
 -- The part of the bytes that is a cell's text.
+use Rattle.std.specs.Prelude.{Ok, Err, Option, None, Some}
 use mathlib.Core.Path.{◌≡◌, refl, sym, ap, ◌∙◌}
 use mathlib.Core.List.{List, []}
-use mathlib.Core.Option.{Option, none, some}
 use Prim.Native.Nat.{ℕ, ◌<◌}
 use native.Mathlib.Omega.{arith}
 use borrow.Author.Tests.{le-ltb, ltb-true, ltb-false}
 use lib.Dec.{ltb}
 use lib.ListN.{get_or, take, drop}
-use Rattle.lists.specs.Answer.{ok, refused}
 use Rattle.lists.specs.Choose.{on_some}
 use Rattle.lists.proofs.AnswerLaws.{refused-ok}
 use Rattle.lists.proofs.Tests.{by_flag}
@@ -31,7 +30,7 @@ module _ (d : List ℕ) (n y x k : ℕ) where
   abbrev P : List (List Cell)
   P = plane_in d n
 
-  region_in_lem : ok k ≡ region_at P y x → (y < n) × (x < get_or d y 0) × (cell_at d y x ≡ Region k)
+  region_in_lem : Ok k ≡ region_at P y x → (y < n) × (x < get_or d y 0) × (cell_at d y x ≡ Region k)
   unfolding region_at
   region_in_lem e =
       by_flag (ltb y n)
@@ -45,20 +44,20 @@ module _ (d : List ℕ) (n y x k : ℕ) where
       (λ b. refused-ok (sym (rw (w, b) at e))))
       (λ a. refused-ok (sym (rw (width-out d n y x (ltb-false y n a), le-ltb x 0 (omega arith)) at e)))
     where
-      by : (c : Cell) (o : Option ℕ) → region_of c ≡ o → ok k ≡ on_some o ok (refused (CellNotRegion y x)) → c ≡ Region k
-      by c none f g = refused-ok (sym g)
-      by c (some r) f g = region-is c k (let z : r ≡ k = cc in rw z at f)
+      by : (c : Cell) (o : Option ℕ) → region_of c ≡ o → Ok k ≡ on_some o Ok (Err (CellNotRegion y x)) → c ≡ Region k
+      by c None f g = refused-ok (sym g)
+      by c (Some r) f g = region-is c k (let z : r ≡ k = cc in rw z at f)
 
-      go : (c : Cell) → ok k ≡ on_some (region_of c) ok (refused (CellNotRegion y x)) → c ≡ Region k
+      go : (c : Cell) → Ok k ≡ on_some (region_of c) Ok (Err (CellNotRegion y x)) → c ≡ Region k
       go c g = by c (region_of c) refl g
 
 -- the text of a cell whose region is k
 module _ {d : List ℕ} {n : ℕ} {bytes spans : List ℕ} {count : ℕ} (t : Held d n bytes spans count) (y x : ℕ) where
-  pub region-among : (k : ℕ) → ok k ≡ region_at (plane_in d n) y x → k < count
+  pub region-among : (k : ℕ) → Ok k ≡ region_at (plane_in d n) y x → k < count
   region-among k e = let r = region_in_lem d n y x k e in t.regions y x k r.0 r.1 r.2
 
-  pub read-text : (k : ℕ) → ok k ≡ region_at (plane_in d n) y x → take (length_at spans k) (drop (offset_at spans k) bytes) ≡ cell_text (text_in bytes spans count) (plane_in d n) y x
+  pub read-text : (k : ℕ) → Ok k ≡ region_at (plane_in d n) y x → take (length_at spans k) (drop (offset_at spans k) bytes) ≡ cell_text (text_in bytes spans count) (plane_in d n) y x
   read-text k e = sym (text_in_lem bytes spans count k (region-among k e)) ∙ ap (λ (a : Reading ℕ). read_or a (text_in bytes spans count) []) e
 
-  pub unread_text : (r : Refusal) → refused r ≡ region_at (plane_in d n) y x → [] ≡ cell_text (text_in bytes spans count) (plane_in d n) y x
+  pub unread_text : (r : Refusal) → Err r ≡ region_at (plane_in d n) y x → [] ≡ cell_text (text_in bytes spans count) (plane_in d n) y x
   unread_text r e = ap (λ (a : Reading ℕ). read_or a (text_in bytes spans count) []) e

@@ -1,8 +1,8 @@
 -- Texts that are written as slots, one behind the other.
+use Rattle.std.specs.Prelude.{None, Some}
 use mathlib.Core.Path.{◌≡◌, refl, sym, ap, ◌∙◌}
 use mathlib.Core.Bool.{Bool, true}
 use mathlib.Core.List.{List, [], ◌∷◌, ◌++◌, append_assoc, append-nil}
-use mathlib.Core.Option.{none, some}
 use Prim.Native.Nat.{ℕ, zero, suc, ◌+◌, ◌-◌, ◌*◌, ◌≤◌, ◌<◌}
 use native.Mathlib.Nat.{suc-mul}
 use native.Mathlib.Numerals.{add-one}
@@ -55,13 +55,13 @@ module _ (bytes : List ℕ) (p : Part) where
   pub part_length : PartIn p bytes → length (part_of bytes p) ≡ p.size
   part_length i = length-take-le p.size (drop p.offset bytes) (omega (arith, length-drop p.offset bytes, i.inside))
 
-  pub part_none : p.size ≡ 0 → present (part_of bytes p) ≡ none
+  pub part_none : p.size ≡ 0 → present (part_of bytes p) ≡ None
   part_none e = ap (λ (n : ℕ). present (take n (drop p.offset bytes))) e
 
-  pub part_some : PartIn p bytes → 0 < p.size → present (part_of bytes p) ≡ some (part_of bytes p)
+  pub part_some : PartIn p bytes → 0 < p.size → present (part_of bytes p) ≡ Some (part_of bytes p)
   part_some i h = go (part_of bytes p) (omega (arith, part_length i))
     where
-      go : (t : List ℕ) → 0 < length t → present t ≡ some t
+      go : (t : List ℕ) → 0 < length t → present t ≡ Some t
       go [] l = absurd (omega arith)
       go (b ∷ t) l = refl
 

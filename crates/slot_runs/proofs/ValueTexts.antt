@@ -1,7 +1,7 @@
 -- The values of a part, and the part that is their default.
+use Rattle.std.specs.Prelude.{None, Some}
 use mathlib.Core.Path.{◌≡◌, sym, ap, ◌∙◌}
 use mathlib.Core.List.{List, [], ◌∷◌}
-use mathlib.Core.Option.{none, some}
 use Prim.Native.Nat.{ℕ, ◌+◌, ◌-◌, ◌≤◌, ◌<◌}
 use native.Mathlib.Omega.{arith}
 use lib.ListN.{length, take, drop}
@@ -9,7 +9,7 @@ use Rattle.lists.proofs.Parts.{part_part}
 use Rattle.model.specs.Limits.{text_bytes}
 use Rattle.record.specs.Policy.{Text}
 use Rattle.values.specs.Values.{Values, values_of, MeasuredOf}
-use Rattle.values.specs.declared.Measured.TheVariants.{Plain, Marked}
+use Rattle.values.specs.declared.Measured.{Measured}
 use Rattle.values.proofs.ValueLaws.{split-length}
 use Rattle.cells.proofs.SpanLaws.{part_of_lem}
 use Rattle.clauses.specs.Clauses.{present}
@@ -32,18 +32,21 @@ pub record MarkedIn (bytes : List ℕ) (p : Part) (n a b : ℕ) : Type 0 where
   pub few : n ≤ text_bytes
   pub ordered : a ≤ b
   pub ends : b ≤ p.size
-  pub default : (values_of (part_of bytes p)).default ≡ some (part_of bytes (within p a b))
+  pub default : (values_of (part_of bytes p)).default ≡ Some (part_of bytes (within p a b))
 
 module _ (bytes : List ℕ) (p : Part) where
-  pub values-none : p.size ≡ 0 → none ∷ none ∷ [] ≡ value_texts (present (part_of bytes p))
+  pub values-none : p.size ≡ 0 → None ∷ None ∷ [] ≡ value_texts (present (part_of bytes p))
   values-none e = ap value_texts (sym (part_none bytes p e))
 
   abbrev lent : List ℕ
   lent = take (p.offset + p.size - p.offset) (drop p.offset bytes)
 
   module _ (i : PartIn p bytes) where
-    pub marked_in : (n a b : ℕ) → MeasuredOf (Marked n a b) lent → MarkedIn bytes p n a b
-    marked_in n a b m =
+    pub marked_in : (v : Measured) → MeasuredOf (Some v) lent → MarkedIn bytes p v.bytes v.from v.to
+    marked_in v m =
+        let n = v.bytes in
+        let a = v.from in
+        let b = v.to in
         let t = part_of bytes p in
         let e : lent ≡ t = part_of_lem bytes p.offset p.size in
         let l : length t ≡ p.size = part_length bytes p i in
@@ -53,27 +56,27 @@ module _ (bytes : List ℕ) (p : Part) where
         let z : p.offset + b - (p.offset + a) ≡ b - a = omega arith in
         let q : take (b - a) (drop (p.offset + a) bytes) ≡ take (b - a) (drop a t) =
         ap (λ (k : ℕ). take k (drop (p.offset + a) bytes)) (sym z) ∙ part_part bytes p.offset p.size a b o (omega arith) in
-        let f : (values_of t).default ≡ some (take (b - a) (drop a t)) = rw e at m.1 in
+        let f : (values_of t).default ≡ Some (take (b - a) (drop a t)) = rw e at m.1 in
         record {
           size = s;
           few = omega (arith, split-length t, i.inside, i.few);
           ordered = o;
           ends = omega arith;
-          default = f ∙ ap (λ (u : List ℕ). some u) (sym q);
+          default = f ∙ ap (λ (u : List ℕ). Some u) (sym q);
         }
 
     pub default_in : {n a b : ℕ} → MarkedIn bytes p n a b → PartIn (within p a b) bytes
     default_in m = record { inside = omega (arith, m.ordered, m.ends, i.inside); few = i.few }
 
     module _ (h : 0 < p.size) where
-      pub values-plain : MeasuredOf Plain lent → some (part_of bytes p) ∷ none ∷ [] ≡ value_texts (present (part_of bytes p))
+      pub values-plain : MeasuredOf None lent → Some (part_of bytes p) ∷ None ∷ [] ≡ value_texts (present (part_of bytes p))
       values-plain m =
           let t = part_of bytes p in
           let e : lent ≡ t = part_of_lem bytes p.offset p.size in
-          let v : values_of t ≡ record { allowed = t; default = none } = rw e at m in
-          sym (ap value_texts (part_some bytes p i h) ∙ ap (λ (x : Values). some x.allowed ∷ x.default ∷ []) v)
+          let v : values_of t ≡ record { allowed = t; default = None } = rw e at m in
+          sym (ap value_texts (part_some bytes p i h) ∙ ap (λ (x : Values). Some x.allowed ∷ x.default ∷ []) v)
 
       pub values-marked : {n a b : ℕ} → MarkedIn bytes p n a b
-          → some (values_of (part_of bytes p)).allowed ∷ some (part_of bytes (within p a b)) ∷ [] ≡ value_texts (present (part_of bytes p))
+          → Some (values_of (part_of bytes p)).allowed ∷ Some (part_of bytes (within p a b)) ∷ [] ≡ value_texts (present (part_of bytes p))
       values-marked m =
-          sym (ap value_texts (part_some bytes p i h) ∙ ap (λ (x : Text). some (values_of (part_of bytes p)).allowed ∷ x ∷ []) m.default)
+          sym (ap value_texts (part_some bytes p i h) ∙ ap (λ (x : Text). Some (values_of (part_of bytes p)).allowed ∷ x ∷ []) m.default)

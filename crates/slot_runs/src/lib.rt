@@ -2,7 +2,6 @@
 #![tactic(auto)]
 
 ghost use Rattle.std.specs.Prelude.{List, [], ◌∷◌, ◌≡◌, ℕ, ◌+◌, ◌*◌, ◌≤◌, ◌<◌, length};
-ghost use Rattle.std.proofs.Math.Option.{none, some};
 ghost use Rattle.model.specs.Limits.{text_bytes};
 ghost use Rattle.cells.specs.Plane.{plane_in};
 ghost use Rattle.cells.specs.Spans.{text_in};
@@ -13,9 +12,7 @@ ghost use Rattle.clauses.specs.Stated.{allowed_text, default_text};
 ghost use Rattle.values.specs.Values.{values_of};
 ghost use Rattle.slot_runs.specs.Spelt.{Texts, part_of, PartIn, SlotPut, Room, Spelt};
 
-use cell_tests::CellRead;
 use record::{ABSENT, PART};
-use values::Measured;
 use writer::VALUES;
 
 // The next slot, and the bytes of the texts before it.
@@ -45,7 +42,7 @@ pub fn put_slot(slots: &mut [u32], at: usize, kind: u32, offset: u32, size: u32)
 // A text that is absent.
 pub fn put_absent(slots: &mut [u32], from: Filled) -> Filled
     requires { Room from 1 slots.old }
-    ensures { (bytes : List ℕ) → Spelt bytes slots.old slots.new from result (none ∷ []) }
+    ensures { (bytes : List ℕ) → Spelt bytes slots.old slots.new from result (None ∷ []) }
 {
     put_slot(slots, from.slot, ABSENT, 0, 0);
     Filled {
@@ -57,7 +54,7 @@ pub fn put_absent(slots: &mut [u32], from: Filled) -> Filled
 // A text that is a part.
 pub fn put_part(slots: &mut [u32], from: Filled, p: Part) -> Filled
     requires { Room from 1 slots.old }
-    ensures { (bytes : List ℕ) → PartIn p bytes → Spelt bytes slots.old slots.new from result (some (part_of bytes p) ∷ []) }
+    ensures { (bytes : List ℕ) → PartIn p bytes → Spelt bytes slots.old slots.new from result (Some (part_of bytes p) ∷ []) }
 {
     put_slot(slots, from.slot, PART, p.offset, p.size);
     Filled {
@@ -80,7 +77,7 @@ pub fn put_optional(slots: &mut [u32], from: Filled, p: Part) -> Filled
 // Two texts that are absent.
 pub fn put_no_values(slots: &mut [u32], from: Filled) -> Filled
     requires { Room from 2 slots.old }
-    ensures { (bytes : List ℕ) → Spelt bytes slots.old slots.new from result (none ∷ none ∷ []) }
+    ensures { (bytes : List ℕ) → Spelt bytes slots.old slots.new from result (None ∷ None ∷ []) }
 {
     let a = put_absent(slots, from);
     put_absent(slots, a)
@@ -89,7 +86,7 @@ pub fn put_no_values(slots: &mut [u32], from: Filled) -> Filled
 // The allowed values of a part that is rewritten to so many bytes.
 fn put_rewritten(slots: &mut [u32], from: Filled, p: Part, size: usize) -> Filled
     requires { Room from 1 slots.old × (size ≤ text_bytes) }
-    ensures { (bytes : List ℕ) → PartIn p bytes → size ≡ length (values_of (part_of bytes p)).allowed → Spelt bytes slots.old slots.new from result (some (values_of (part_of bytes p)).allowed ∷ []) }
+    ensures { (bytes : List ℕ) → PartIn p bytes → size ≡ length (values_of (part_of bytes p)).allowed → Spelt bytes slots.old slots.new from result (Some (values_of (part_of bytes p)).allowed ∷ []) }
 {
     put_slot(slots, from.slot, VALUES, p.offset, p.size);
     Filled {
@@ -109,18 +106,18 @@ pub fn put_values(bytes: &[u8], slots: &mut [u32], from: Filled, p: Part) -> Fil
     let start = p.offset as usize;
     let end = start + p.size as usize;
     match values::measure_values(&bytes[start..end]) {
-        Measured::Plain => {
+        None => {
             let a = put_part(slots, from, p);
             put_absent(slots, a)
         }
-        Measured::Marked(n, a, b) => {
-            let r = put_rewritten(slots, from, p, n);
+        Some(m) => {
+            let r = put_rewritten(slots, from, p, m.bytes);
             put_part(
                 slots,
                 r,
                 Part {
-                    offset: (start + a) as u32,
-                    size: (b - a) as u32,
+                    offset: (start + m.from) as u32,
+                    size: (m.to - m.from) as u32,
                 },
             )
         }
@@ -142,11 +139,11 @@ pub fn part_at(
     ensures inside { PartIn result bytes.now }
 {
     match cell_tests::region_at(plane, rows, y, x) {
-        CellRead::Number(k) => Part {
+        Ok(k) => Part {
             offset: spans[k * 2],
             size: spans[k * 2 + 1],
         },
-        CellRead::NotRead(_) => Part { offset: 0, size: 0 },
+        Err(_) => Part { offset: 0, size: 0 },
     }
 }
 
@@ -168,13 +165,11 @@ pub fn put_row(
 {
     let mut slot = from.slot;
     let mut used = from.bytes;
-    let mut i = 0;
-    while i < n {
+    for i in 0..n {
         let p = part_at(plane, rows, bytes, spans, count, y, x + i);
         let r = put_part(slots, Filled { slot, bytes: used }, p);
         slot = r.slot;
         used = r.bytes;
-        i += 1;
     }
     Filled { slot, bytes: used }
 }

@@ -64,8 +64,7 @@ fn put_inputs(
 {
     let mut slot = from.slot;
     let mut used = from.bytes;
-    let mut i = 0;
-    while i < s.inputs {
+    for i in 0..s.inputs {
         let r = put_input(
             plane,
             rows,
@@ -79,7 +78,6 @@ fn put_inputs(
         );
         slot = r.slot;
         used = r.bytes;
-        i += 1;
     }
     Filled { slot, bytes: used }
 }
@@ -189,8 +187,7 @@ fn put_outputs(
 {
     let mut slot = from.slot;
     let mut used = from.bytes;
-    let mut j = 0;
-    while j < s.outputs {
+    for j in 0..s.outputs {
         let r = put_output(
             plane,
             rows,
@@ -204,7 +201,6 @@ fn put_outputs(
         );
         slot = r.slot;
         used = r.bytes;
-        j += 1;
     }
     Filled { slot, bytes: used }
 }
@@ -282,8 +278,7 @@ fn put_rules(
 {
     let mut slot = from.slot;
     let mut used = from.bytes;
-    let mut i = 0;
-    while i < rules {
+    for i in 0..rules {
         let r = put_rule(
             plane,
             rows,
@@ -297,7 +292,6 @@ fn put_rules(
         );
         slot = r.slot;
         used = r.bytes;
-        i += 1;
     }
     Filled { slot, bytes: used }
 }

@@ -1,4 +1,5 @@
 -- The cells of a frame whose number is known, and a row of frames that is being made.
+use Rattle.std.specs.Prelude.{Ok, Err, Option, ℕ}
 use mathlib.Core.Path.{◌≡◌, refl, sym, ap, ◌∙◌, subst}
 use mathlib.Core.Bool.{Bool, true}
 use mathlib.Core.List.{List, []}
@@ -7,7 +8,7 @@ use native.Mathlib.Nat.{sub-zero, add-zero, mod-eq_of_lt, div-eq_of_lt, mul-add-
 use native.Mathlib.Omega.{arith}
 use lib.ListN.{length, get_or}
 use borrow.Author.Tests.{lt-ltb, le-ltb}
-use Rattle.lists.specs.Answer.{ok, refused, ◌>>=◌, each, those}
+use Rattle.lists.specs.Answer.{◌>>=◌, each, those}
 use Rattle.lists.specs.Choose.{choose}
 use Rattle.lists.specs.Picture.{Picture, pic, canvas}
 use Rattle.lists.specs.Run.{run}
@@ -18,7 +19,6 @@ use Rattle.model.specs.declared.Rect.{Rect}
 use Rattle.model.specs.declared.Refusal.{Refusal}
 use Rattle.cells.specs.Plane.{cells_in, KeptBefore}
 use Rattle.cells.proofs.PlaneLaws.{kept_refl, kept_then}
-use Rattle.outline.specs.declared.Crossing.{Crossing}
 use Rattle.outline.specs.declared.Outline.{Outline}
 use Rattle.regions.specs.Corners.{corner_in, NextCorner}
 use Rattle.regions.specs.Regions.{Finder, is_corner}
@@ -28,8 +28,6 @@ use Rattle.walks.specs.Frame.{frame_of}
 use Rattle.walks.specs.Kinds.{grid}
 use Rattle.plane_cells.specs.Made.{row_of, row_made, RowFit, RowFits}
 use Rattle.plane_cells.specs.Row.{Row, fitting, with_cell}
-use Rattle.plane_cells.specs.declared.RowMade.{RowMade}
-use Rattle.plane_cells.specs.declared.RowMade.TheVariants.{Cells, NoCells}
 use Rattle.plane_cells.specs.declared.RowSofar.{RowSofar}
 use Rattle.step.specs.Made.{no_region, Over}
 use Rattle.step.specs.PlaneStep.{add_cell, row_by}
@@ -47,15 +45,15 @@ module _ (o : Outline) (find : Finder) (rs : List Rect) (row y x : ℕ) (s : Row
   with_region l = go (find x y) e
     where
       go : (m : Reading Rect) → k ≡ first_in rs m → fitting row (with_cell o x k s) ≡ ◌>>=◌ m (λ f. ◌>>=◌ (region_of rs f) (λ i. fitting row (with_cell o x i s)))
-      go (ok f) q = rw (region-first rs f, ← q, lt-ltb k (length rs) l)
-      go (refused r) q = absurd (omega (arith, q))
+      go (Ok f) q = rw (region-first rs f, ← q, lt-ltb k (length rs) l)
+      go (Err r) q = absurd (omega (arith, q))
 
-  pub no_region_lem : length rs ≤ k → refused (no_region (find x y)) ≡ add_cell o find rs row y x s
+  pub no_region_lem : length rs ≤ k → Err (no_region (find x y)) ≡ add_cell o find rs row y x s
   no_region_lem l = go (find x y) e
     where
-      go : (m : Reading Rect) → k ≡ first_in rs m → refused (no_region m) ≡ ◌>>=◌ m (λ f. ◌>>=◌ (region_of rs f) (λ i. fitting row (with_cell o x i s)))
-      go (ok f) q = rw (region-first rs f, ← q, le-ltb k (length rs) l)
-      go (refused r) q = refl
+      go : (m : Reading Rect) → k ≡ first_in rs m → Err (no_region m) ≡ ◌>>=◌ m (λ f. ◌>>=◌ (region_of rs f) (λ i. fitting row (with_cell o x i s)))
+      go (Ok f) q = rw (region-first rs f, ← q, le-ltb k (length rs) l)
+      go (Err r) q = refl
 
 -- the number that stands at a corner
 pub number_at : (find : Finder) (rs : List Rect) (w h : ℕ) (l found : List ℕ) (x y : ℕ) → x < w → y < h → is_corner (canvas w h l x y) ≡ true → Numbered find rs (canvas w h l) w (h * w) found
@@ -103,7 +101,7 @@ skipped : (o : Outline) (w h : ℕ) (l : List ℕ) (row y i k : ℕ) (s : Row) �
 skipped o w h l row y i k s q rs =
     ap (λ (xs : List ℕ). each (add_cell o (frame_of grid (canvas w h l) w h) rs row y) xs s) (sym (those-from (λ j. is_corner (canvas w h l j y)) w i k q.from q.to q.clear))
 
-pub filling_start : (o : Outline) (w h count : ℕ) (l found : List ℕ) (row y : ℕ) (d : List ℕ) (output annotation : Crossing) (x : ℕ) → y < h → NextCorner (λ i. is_corner (pic w l i y)) w 0 x
+pub filling_start : (o : Outline) (w h count : ℕ) (l found : List ℕ) (row y : ℕ) (d : List ℕ) (output annotation : Option ℕ) (x : ℕ) → y < h → NextCorner (λ i. is_corner (pic w l i y)) w 0 x
     → Filling o w h count l found row y d (record { cells = 0; output = output; annotation = annotation }) d x (record { cells = 0; output = output; annotation = annotation })
 unfolding cells_in run
 filling_start o w h count l found row y d output annotation x v q =
@@ -129,11 +127,11 @@ module _ {o : Outline} {w h count : ℕ} {l found : List ℕ} {row y : ℕ} {d :
   abbrev whole : List Rect → Reading Row
   whole rs = row_by o (frame_of grid p w h) rs p w row y (record { cells = []; output = s₀.output; annotation = s₀.annotation })
 
-  module _ (g : x < w) (r : RowMade) (b : List ℕ) (e : Over w h count l found (λ rs. row_made r b row ≡ add rs x (row_of s out row))) (k : KeptBefore out b row) where
-    added : {m : RowMade} → r ≡ m → Over w h count l found (λ rs. choose (corner x) (add rs x (row_of s out row)) (ok (row_of s out row)) ≡ row_made m b row)
-    added z rs n m = rw (q.starts g) (sym (e rs n m) ∙ ap (λ (a : RowMade). row_made a b row) z)
+  module _ (g : x < w) (r : Reading RowSofar) (b : List ℕ) (e : Over w h count l found (λ rs. row_made r b row ≡ add rs x (row_of s out row))) (k : KeptBefore out b row) where
+    added : {m : (Reading RowSofar)} → r ≡ m → Over w h count l found (λ rs. choose (corner x) (add rs x (row_of s out row)) (Ok (row_of s out row)) ≡ row_made m b row)
+    added z rs n m = rw (q.starts g) (sym (e rs n m) ∙ ap (λ (a : Reading RowSofar). row_made a b row) z)
 
-    pub filling_more : RowFits r row → length b ≡ length out → (t : RowSofar) → r ≡ Cells t → (i : ℕ) → y < h → NextCorner (λ j. is_corner (pic w l j y)) w (x + 1) i
+    pub filling_more : RowFits r row → length b ≡ length out → (t : RowSofar) → r ≡ Ok t → (i : ℕ) → y < h → NextCorner (λ j. is_corner (pic w l j y)) w (x + 1) i
         → Filling o w h count l found row y d s₀ b i t
     filling_more f len t z i v u =
         let c = corner-canvas l w h (x + 1) y i v u in
@@ -141,16 +139,16 @@ module _ {o : Outline} {w h count : ℕ} {l found : List ℕ} {row y : ℕ} {d :
           starts = c.found;
           long = len ∙ q.long;
           kept = kept_then d out b row q.kept k;
-          fits = subst (λ (m : RowMade). RowFits m row) z f;
+          fits = subst (λ (m : Reading RowSofar). RowFits m row) z f;
           same = λ rs n m.
               skipped o w h l row y (x + 1) i (row_of t b row) c rs ∙ sym (turn_on (add rs) corner x w (row_of s out row) (row_of t b row) g (added z rs n m)) ∙ q.same rs n m;
         }
 
-    pub filling_out : (f : Refusal) → r ≡ NoCells f → Over w h count l found (λ rs. refused f ≡ whole rs) × KeptBefore d b row
+    pub filling_out : (f : Refusal) → r ≡ Err f → Over w h count l found (λ rs. Err f ≡ whole rs) × KeptBefore d b row
     filling_out f z = (
       λ rs n m. sym (turn_out (add rs) corner x w (row_of s out row) f g (added z rs n m)) ∙ q.same rs n m,
       kept_then d out b row q.kept k,
     )
 
-  pub filling_end : w ≤ x → Over w h count l found (λ rs. ok (row_of s out row) ≡ whole rs)
+  pub filling_end : w ≤ x → Over w h count l found (λ rs. Ok (row_of s out row) ≡ whole rs)
   filling_end g rs n m = sym (turn_end (add rs) corner x w (row_of s out row) g) ∙ q.same rs n m

@@ -1,4 +1,5 @@
 -- The plane that walks find is the one that is drawn: the theorem `walked_is_drawn`.
+use Rattle.std.specs.Prelude.{Ok}
 use mathlib.Core.Bool.{true}
 use mathlib.Core.List.{List, []}
 use mathlib.Core.Logic.{◌↔◌}
@@ -6,7 +7,7 @@ use mathlib.Core.Path.{◌≡◌}
 use Prim.Native.Nat.{ℕ}
 use lib.Dec.{eqb}
 use lib.ListN.{length}
-use Rattle.lists.specs.Answer.{ok, ◌>>=◌, those, Below}
+use Rattle.lists.specs.Answer.{◌>>=◌, those, Below}
 use Rattle.lists.specs.Choose.{choose}
 use Rattle.lists.specs.Picture.{Picture}
 use Rattle.lists.proofs.AnswerLaws.{then_below, each_below}
@@ -41,19 +42,19 @@ module _ (f f' : Finder) (b : (x y : ℕ) → Below (f x y) (f' x y)) (o : Outli
 
   row_below : (y : ℕ) (s : Rows) → Below (add_grid_row o f regions p w y s) (add_grid_row o f' regions p w y s)
   row_below y s =
-      let main : Reading Rows = choose (eqb y o.y) (add_line (output_line s.output s.annotation) s) (ok s) in
-      let below : Rows → Reading Rows = λ a. choose (is_at o.below y) (add_line (annotation_line a.output) a) (ok a) in
+      let main : Reading Rows = choose (eqb y o.y) (add_line (output_line s.output s.annotation) s) (Ok s) in
+      let below : Rows → Reading Rows = λ a. choose (is_at o.below y) (add_line (annotation_line a.output) a) (Ok a) in
       then_below main main (λ a. ◌>>=◌ (below a) (add_frames o f regions p w y)) (λ a. ◌>>=◌ (below a) (add_frames o f' regions p w y)) (λ a e. e)
       (λ a. then_below (below a) (below a) (add_frames o f regions p w y) (add_frames o f' regions p w y) (λ r e. e) (frames_below y))
 
   pub plane_below : (h : ℕ) → Below (plane_by f o regions p w h) (plane_by f' o regions p w h)
   unfolding plane_by
   plane_below h =
-      then_below (rows_by f o regions p w h) (rows_by f' o regions p w h) (λ s. ok s.plane) (λ s. ok s.plane)
+      then_below (rows_by f o regions p w h) (rows_by f' o regions p w h) (λ s. Ok s.plane) (λ s. Ok s.plane)
       (each_below (add_grid_row o f regions p w) (add_grid_row o f' regions p w) row_below (those (λ _. true) 0 h) no_rows) (λ s a e. e)
 
 pub walked_is_drawn : (o : Outline) (regions : List Rect) (p : Picture) (w h : ℕ) (P : Plane)
-    → (plane_by (frame_of grid p w h) o regions p w h ≡ ok P) ↔ (plane_by (by_sides grid p w h) o regions p w h ≡ ok P)
+    → (plane_by (frame_of grid p w h) o regions p w h ≡ Ok P) ↔ (plane_by (by_sides grid p w h) o regions p w h ≡ Ok P)
 walked_is_drawn o regions p w h P = (
   plane_below (frame_of grid p w h) (by_sides grid p w h) (λ x y. walks_sides grid p w h x y grid-sound) o regions p w h P,
   plane_below (by_sides grid p w h) (frame_of grid p w h) (λ x y. sides_walks grid p w h x y grid-sound) o regions p w h P,

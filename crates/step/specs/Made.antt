@@ -1,6 +1,5 @@
 -- What the functions of the plane step ask for, and what they answer with the slice that holds the plane.
-use Rattle.std.specs.Prelude.{List, ◌≡◌, ℕ, ◌*◌, ◌≤◌, length}
-use Rattle.lists.specs.Answer.{ok, refused}
+use Rattle.std.specs.Prelude.{List, ◌≡◌, ℕ, ◌*◌, ◌≤◌, length, Ok, Err}
 use Rattle.lists.specs.Picture.{canvas}
 use Rattle.model.specs.Limits.{region_count}
 use Rattle.model.specs.Refusals.{Reading}
@@ -12,22 +11,20 @@ use Rattle.regions.specs.Slices.{Layer}
 use Rattle.lookup.specs.Lookup.{Numbered}
 use Rattle.walks.specs.Frame.{frame_of}
 use Rattle.walks.specs.Kinds.{grid}
-use Rattle.step.specs.declared.PlaneMade.{PlaneMade}
-use Rattle.step.specs.declared.PlaneMade.TheVariants.{Made, NotMade}
 
 -- why a frame has no region: it is none, or no region contains it (6)
 abbrev pub no_region : Reading Rect → Refusal
-no_region (ok f) = RegionNotFound f.left f.top
-no_region (refused r) = r
+no_region (Ok f) = RegionNotFound f.left f.top
+no_region (Err r) = r
 
 -- an answer's plane
-abbrev pub plane_made : PlaneMade → List ℕ → Reading Plane
-plane_made (Made n) d = ok (plane_in d n)
-plane_made (NotMade r) d = refused r
+abbrev pub plane_made : Reading ℕ → List ℕ → Reading Plane
+plane_made (Ok n) d = Ok (plane_in d n)
+plane_made (Err r) d = Err r
 
-abbrev pub MadeFits : PlaneMade → List ℕ → Type 0
-MadeFits (Made n) d = PlaneFits d n
-MadeFits (NotMade r) d = Unit {0}
+abbrev pub MadeFits : Reading ℕ → List ℕ → Type 0
+MadeFits (Ok n) d = PlaneFits d n
+MadeFits (Err r) d = Unit {0}
 
 -- the layer GRID of w columns and h rows, the rects of the regions, four numbers each, and a place for the number of each frame
 pub record StepRoom (w h count : ℕ) (l r found : List ℕ) : Type 0 where

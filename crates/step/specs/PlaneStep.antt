@@ -1,13 +1,12 @@
 -- The plane of a drawing, over a finder of frames: document 01, "Regions and plane", and `plane` of the Rust's canvas.
-use Rattle.std.specs.Prelude.{true, List, [], ◌∷◌, ◌++◌, ℕ, eqb, length}
-use Rattle.lists.specs.Answer.{ok, ◌>>=◌, each, those}
+use Rattle.std.specs.Prelude.{true, List, [], ◌∷◌, ◌++◌, ℕ, eqb, length, Ok, None}
+use Rattle.lists.specs.Answer.{◌>>=◌, each, those}
 use Rattle.lists.specs.Choose.{choose}
 use Rattle.lists.specs.Picture.{Picture}
 use Rattle.model.specs.Refusals.{Reading}
 use Rattle.model.specs.declared.Rect.{Rect}
 use Rattle.cells.specs.Plane.{Plane}
 use Rattle.lookup.specs.Lookup.{region_of}
-use Rattle.outline.specs.declared.Crossing.TheVariants.{Nowhere}
 use Rattle.outline.specs.declared.Outline.{Outline}
 use Rattle.plane_cells.specs.Row.{Row, is_at, fitting, with_cell}
 use Rattle.plane_rows.specs.Rows.{Rows, output_line, annotation_line, add_line}
@@ -22,8 +21,8 @@ corners_in p w y = those (λ x. is_corner (p x y)) 0 w
 -- a row in which no frame starts is no row of the plane
 abbrev pub add_row : Rows → Row → Reading Rows
 add_row s r =
-    choose (eqb (length r.cells) 0) (ok s)
-    (ok (record { plane = s.plane ++ (r.cells ∷ []); width = length r.cells; output = r.output; annotation = r.annotation }))
+    choose (eqb (length r.cells) 0) (Ok s)
+    (Ok (record { plane = s.plane ++ (r.cells ∷ []); width = length r.cells; output = r.output; annotation = r.annotation }))
 
 module _ (o : Outline) where
   -- the frame in column x of row y is found, then its region, then its cells are added
@@ -45,13 +44,13 @@ module _ (o : Outline) where
   -- row y of GRID: the line rows that stand there, then the row of its frames
   abbrev pub add_grid_row : Finder → List Rect → Picture → ℕ → ℕ → Rows → Reading Rows
   add_grid_row find regions p w y s = do
-    a ← choose (eqb y o.y) (add_line (output_line s.output s.annotation) s) (ok s)
-    b ← choose (is_at o.below y) (add_line (annotation_line a.output) a) (ok a)
+    a ← choose (eqb y o.y) (add_line (output_line s.output s.annotation) s) (Ok s)
+    b ← choose (is_at o.below y) (add_line (annotation_line a.output) a) (Ok a)
     add_frames find regions p w y b
 
 -- no row yet
 abbrev pub no_rows : Rows
-no_rows = record { plane = []; width = 0; output = Nowhere; annotation = Nowhere }
+no_rows = record { plane = []; width = 0; output = None; annotation = None }
 
 abbrev pub rows_by : Finder → Outline → List Rect → Picture → ℕ → ℕ → Reading Rows
 rows_by find o regions p w h = each (add_grid_row o find regions p w) (those (λ _. true) 0 h) no_rows
@@ -60,7 +59,7 @@ rows_by find o regions p w h = each (add_grid_row o find regions p w) (those (λ
 unfoldable pub plane_by : Finder → Outline → List Rect → Picture → ℕ → ℕ → Reading Plane
 plane_by find o regions p w h = do
   s ← rows_by find o regions p w h
-  ok s.plane
+  Ok s.plane
 
 -- the plane by walks
 abbrev pub plane_of : Outline → List Rect → Picture → ℕ → ℕ → Reading Plane

@@ -16,10 +16,9 @@ ghost use Rattle.step.specs.PlaneStep.{add_cell, row_by, add_frames, add_grid_ro
 ghost use Rattle.step.specs.Made.{no_region, plane_made, MadeFits, StepRoom, NumberRoom, Over};
 
 use model::Refusal;
-use outline::{Crossing, Outline};
-use plane_cells::{RowMade, RowSofar};
-use plane_rows::{PlaneSofar, RowsMade};
-use walks::Framed;
+use outline::Outline;
+use plane_cells::RowSofar;
+use plane_rows::PlaneSofar;
 
 // Why the frame that starts in column x of row y has no region.
 fn why_none(layer: &[u32], w: usize, h: usize, x: usize, y: usize) -> Refusal
@@ -27,8 +26,8 @@ fn why_none(layer: &[u32], w: usize, h: usize, x: usize, y: usize) -> Refusal
     ensures { result ≡ no_region (frame_of grid (canvas w h layer.now) w h x y) }
 {
     match frames::recognize_rectangle(layer, w, h, x, y) {
-        Framed::Closed(f) => Refusal::RegionNotFound(f.left, f.top),
-        Framed::NotFramed(r) => r,
+        Ok(f) => Refusal::RegionNotFound(f.left, f.top),
+        Err(r) => r,
     }
 }
 
@@ -45,7 +44,7 @@ fn add_frame(
     plane: &mut [u32],
     row: usize,
     s: RowSofar,
-) -> RowMade
+) -> Result<RowSofar, Refusal>
     requires { NumberRoom w h count layer.now found.now × (x < w) × (y < h) × RowFit s row × (plane_size ≤ length plane.old) × (is_corner (canvas w h layer.now x y) ≡ true) }
     ensures made { Over w h count layer.now found.now (λ rs. row_made result plane.new row ≡ add_cell o (frame_of grid (canvas w h layer.now) w h) rs row y x (row_of s plane.old row)) }
     ensures fits { RowFits result row }
@@ -55,7 +54,7 @@ fn add_frame(
     if k < count {
         return plane_cells::add_cells(o, x, k, plane, row, s);
     }
-    RowMade::NoCells(why_none(layer, w, h, x, y))
+    Err(why_none(layer, w, h, x, y))
 }
 
 // The column of the first corner of row y from column x on, or w.
@@ -78,9 +77,9 @@ fn make_row(
     count: usize,
     plane: &mut [u32],
     row: usize,
-    output: Crossing,
-    annotation: Crossing,
-) -> RowMade
+    output: Option<usize>,
+    annotation: Option<usize>,
+) -> Result<RowSofar, Refusal>
     requires { NumberRoom w h count layer.now found.now × (y < h) × (plane_size ≤ length plane.old) }
     ensures made { Over w h count layer.now found.now (λ rs. row_made result plane.new row ≡ row_by o (frame_of grid (canvas w h layer.now) w h) rs (canvas w h layer.now) w row y (record { cells = []; output = output; annotation = annotation })) }
     ensures fits { RowFits result row }
@@ -92,14 +91,12 @@ fn make_row(
         output,
         annotation,
     };
+    // No `for`: each turn goes on to the next corner.
     while x < w {
-        s = match add_frame(o, layer, w, h, x, y, found, count, plane, row, s) {
-            RowMade::Cells(t) => t,
-            RowMade::NoCells(r) => return RowMade::NoCells(r),
-        };
+        s = add_frame(o, layer, w, h, x, y, found, count, plane, row, s)?;
         x = corner_in_row(layer, w, x + 1, y);
     }
-    RowMade::Cells(s)
+    Ok(s)
 }
 
 // The row of the frames that start in row y.
@@ -113,7 +110,7 @@ fn add_frames(
     count: usize,
     plane: &mut [u32],
     s: PlaneSofar,
-) -> RowsMade
+) -> Result<PlaneSofar, Refusal>
     requires { NumberRoom w h count layer.now found.now × (y < h) × Fits s plane.old }
     ensures made { Over w h count layer.now found.now (λ rs. rows_made result plane.new ≡ add_frames o (frame_of grid (canvas w h layer.now) w h) rs (canvas w h layer.now) w y (rows_of s plane.old)) }
     ensures fits { RowsFit result plane.new }
@@ -121,26 +118,22 @@ fn add_frames(
     let row = s.rows;
     let output = s.output;
     let annotation = s.annotation;
-    match make_row(
+    let t = make_row(
         o, layer, w, h, y, found, count, plane, row, output, annotation,
-    ) {
-        RowMade::Cells(t) => {
-            let n = t.cells;
-            if n == 0 {
-                return RowsMade::Sofar(s);
-            }
-            cells::end_row(plane, row, n);
-            let output = t.output;
-            let annotation = t.annotation;
-            RowsMade::Sofar(PlaneSofar {
-                rows: row + 1,
-                width: n,
-                output,
-                annotation,
-            })
-        }
-        RowMade::NoCells(r) => RowsMade::NoRows(r),
+    )?;
+    let n = t.cells;
+    if n == 0 {
+        return Ok(s);
     }
+    cells::end_row(plane, row, n);
+    let output = t.output;
+    let annotation = t.annotation;
+    Ok(PlaneSofar {
+        rows: row + 1,
+        width: n,
+        output,
+        annotation,
+    })
 }
 
 // Row y of GRID: the line rows that stand there, and the row of its frames.
@@ -154,28 +147,15 @@ fn add_grid_row(
     count: usize,
     plane: &mut [u32],
     s: PlaneSofar,
-) -> RowsMade
+) -> Result<PlaneSofar, Refusal>
     requires { NumberRoom w h count layer.now found.now × (y < h) × Fits s plane.old }
     ensures made { Over w h count layer.now found.now (λ rs. rows_made result plane.new ≡ add_grid_row o (frame_of grid (canvas w h layer.now) w h) rs (canvas w h layer.now) w y (rows_of s plane.old)) }
     ensures fits { RowsFit result plane.new }
 {
-    let a = match plane_rows::add_line_row(plane, s, y == o.y, true) {
-        RowsMade::Sofar(t) => t,
-        RowsMade::NoRows(r) => return RowsMade::NoRows(r),
-    };
+    let a = plane_rows::add_line_row(plane, s, y == o.y, true)?;
     let below = o.below;
-    let b = match plane_rows::add_line_row(plane, a, plane_cells::is_at(below, y), false) {
-        RowsMade::Sofar(t) => t,
-        RowsMade::NoRows(r) => return RowsMade::NoRows(r),
-    };
+    let b = plane_rows::add_line_row(plane, a, plane_cells::is_at(below, y), false)?;
     add_frames(o, layer, w, h, y, found, count, plane, b)
-}
-
-// So many rows stand in the slice, or why they cannot.
-#[derive(Clone, Copy)]
-pub enum PlaneMade {
-    Made(usize),
-    NotMade(Refusal),
 }
 
 // The plane of a GRID layer of w columns and h rows, whose frames are numbered.
@@ -187,26 +167,21 @@ fn add_grid_rows(
     found: &[u32],
     count: usize,
     plane: &mut [u32],
-) -> PlaneMade
+) -> Result<usize, Refusal>
     requires { NumberRoom w h count layer.now found.now × (plane_size ≤ length plane.old) }
     ensures made { Over w h count layer.now found.now (λ rs. plane_made result plane.new ≡ plane_of o rs (canvas w h layer.now) w h) }
     ensures fits { MadeFits result plane.new }
 {
-    let mut y = 0;
     let mut s = PlaneSofar {
         rows: 0,
         width: 0,
-        output: Crossing::Nowhere,
-        annotation: Crossing::Nowhere,
+        output: None,
+        annotation: None,
     };
-    while y < h {
-        s = match add_grid_row(o, layer, w, h, y, found, count, plane, s) {
-            RowsMade::Sofar(t) => t,
-            RowsMade::NoRows(r) => return PlaneMade::NotMade(r),
-        };
-        y += 1;
+    for y in 0..h {
+        s = add_grid_row(o, layer, w, h, y, found, count, plane, s)?;
     }
-    PlaneMade::Made(s.rows)
+    Ok(s.rows)
 }
 
 // The plane of a GRID layer of w columns and h rows, over `count` regions. The numbers of its frames are left in `found`.
@@ -219,7 +194,7 @@ pub fn make_plane(
     count: usize,
     found: &mut [u32],
     plane: &mut [u32],
-) -> PlaneMade
+) -> Result<usize, Refusal>
     requires { StepRoom w h count layer.now rects.now found.old × (plane_size ≤ length plane.old) }
     ensures made { plane_made result plane.new ≡ plane_of o (rects_of rects.now count) (canvas w h layer.now) w h }
     ensures fits { MadeFits result plane.new }

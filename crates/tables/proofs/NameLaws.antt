@@ -1,8 +1,8 @@
 -- The name's slot in front of the others.
+use Rattle.std.specs.Prelude.{Ok, None, Some}
 use mathlib.Core.Path.{◌≡◌, refl, sym, ap, ◌∙◌}
 use mathlib.Core.Bool.{Bool, true, false}
 use mathlib.Core.List.{List, ◌∷◌}
-use mathlib.Core.Option.{none, some}
 use Prim.Native.Nat.{ℕ, zero, suc, ◌+◌, ◌-◌, ◌*◌, ◌≤◌, ◌<◌}
 use native.Mathlib.Omega.{arith}
 use lib.ListN.{length, get_or, take, drop, length-append, length-drop}
@@ -21,7 +21,6 @@ use Rattle.writer.specs.SlotTexts.{slot_text, texts_from}
 use Rattle.slot_runs.specs.Spelt.{SlotPut}
 use Rattle.recognizer.specs.Told.{TableHeld, table_in}
 use Rattle.recognizer.specs.declared.SlotTable.{SlotTable}
-use Rattle.recognizer.specs.declared.Recognized.TheVariants.{Stands}
 use Rattle.tables.specs.NamedTable.{name_of, named_table, NameIn, NamePut, Named}
 
 -- slot 0 as it was written
@@ -47,8 +46,8 @@ name_absent t p =
 
 -- the name is that of the slot
 name-text : (named : Bool) (bytes ss : List ℕ) (count : ℕ) → (named ≡ true → 0 < count)
-    → choose named (some (spans.text_at bytes ss 0)) none ≡ name_of named (spans.text_in bytes ss count)
-name-text true bytes ss count h = ap some (sym (text_in_lem bytes ss count 0 (h refl)))
+    → choose named (Some (spans.text_at bytes ss 0)) None ≡ name_of named (spans.text_in bytes ss count)
+name-text true bytes ss count h = ap Some (sym (text_in_lem bytes ss count 0 (h refl)))
 name-text false bytes ss count h = refl
 
 -- what was not written keeps its texts
@@ -152,5 +151,5 @@ module _ {t : SlotTable} {named : Bool} {bytes ss d o : List ℕ} {count size : 
       }
 
 -- the same table
-pub named_table_lem : {t r : SlotTable} {name : Text} {bytes d o : List ℕ} (m : Reading Table) → Named t r name bytes d o → table_in name (Stands t) bytes d ≡ m → named_table (Stands r) bytes o ≡ m
+pub named_table_lem : {t r : SlotTable} {name : Text} {bytes d o : List ℕ} (m : Reading Table) → Named t r name bytes d o → table_in name (Ok t) bytes d ≡ m → named_table (Ok r) bytes o ≡ m
 named_table_lem m n e = rw (n.same, n.texts) e

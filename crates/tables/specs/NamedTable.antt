@@ -1,7 +1,5 @@
 -- A table whose texts stand in slots, the name's among them.
-use Rattle.std.specs.Prelude.{Bool, true, false, List, ◌∷◌, ◌≡◌, ℕ, ◌+◌, ◌-◌, ◌*◌, ◌≤◌, ◌<◌, length, get_or}
-use Rattle.std.proofs.Math.Option.{none, some}
-use Rattle.lists.specs.Answer.{ok, refused}
+use Rattle.std.specs.Prelude.{Bool, true, false, List, ◌∷◌, ◌≡◌, ℕ, ◌+◌, ◌-◌, ◌*◌, ◌≤◌, ◌<◌, length, get_or, None, Some, Ok, Err}
 use Rattle.lists.specs.Choose.{choose}
 use Rattle.model.specs.Limits.{plane_rows, text_bytes}
 use Rattle.model.specs.Policies.{policy_number, orientation_number}
@@ -12,18 +10,16 @@ use Rattle.record.specs.Slots.{offset_at, length_at, slot_limit}
 use Rattle.cells.specs.Spans as spans
 use Rattle.writer.specs.SlotTexts.{slot_text, texts_from}
 use Rattle.recognizer.specs.declared.SlotTable.{SlotTable}
-use Rattle.recognizer.specs.declared.Recognized.{Recognized}
-use Rattle.recognizer.specs.declared.Recognized.TheVariants.{Stands, NotRecognized}
 
 -- the name's frame is the first region, where there is a name
 abbrev pub name_of : Bool → (ℕ → List ℕ) → Text
-name_of true text = some (text 0)
-name_of false text = none
+name_of true text = Some (text 0)
+name_of false text = None
 
 -- an answer's table: its numbers, and the texts of all its slots
-abbrev pub named_table : Recognized → List ℕ → List ℕ → Reading Table
-named_table (Stands t) bytes d =
-    ok (record {
+abbrev pub named_table : Reading SlotTable → List ℕ → List ℕ → Reading Table
+named_table (Ok t) bytes d =
+    Ok (record {
       policy = policy_number t.policy;
       orientation = orientation_number t.orientation;
       inputs = t.inputs;
@@ -32,7 +28,7 @@ named_table (Stands t) bytes d =
       rules = t.rules;
       texts = texts_from bytes d 0 t.slots;
     })
-named_table (NotRecognized r) bytes d = refused r
+named_table (Err r) bytes d = Err r
 
 -- its slots lie in at most 61,440 bytes, and their texts have so many bytes
 pub record NamedHeld (t : SlotTable) (bytes d : List ℕ) : Type 0 where
@@ -43,9 +39,9 @@ pub record NamedHeld (t : SlotTable) (bytes d : List ℕ) : Type 0 where
   pub total : t.bytes ≡ length (packed (texts_from bytes d 0 t.slots))
   pub inside : (i : ℕ) → i < t.slots → offset_at d i + length_at d i ≤ length bytes
 
-abbrev pub AnswerHeld : Recognized → List ℕ → List ℕ → Type 0
-AnswerHeld (Stands t) bytes d = NamedHeld t bytes d
-AnswerHeld (NotRecognized r) bytes d = Unit {0}
+abbrev pub AnswerHeld : Reading SlotTable → List ℕ → List ℕ → Type 0
+AnswerHeld (Ok t) bytes d = NamedHeld t bytes d
+AnswerHeld (Err r) bytes d = Unit {0}
 
 -- what a name may be taken from: where there is one, the first of `count` texts
 pub record NameIn (named : Bool) (bytes ss : List ℕ) (count : ℕ) : Type 0 where
@@ -56,7 +52,7 @@ pub record NameIn (named : Bool) (bytes ss : List ℕ) (count : ℕ) : Type 0 wh
 
 -- the name's slot is written: its text, its bytes, and nothing else changed
 pub record NamePut (named : Bool) (ss d o : List ℕ) (size : ℕ) : Type 0 where
-  pub text : (bytes : List ℕ) → slot_text bytes o 0 ≡ choose named (some (spans.text_at bytes ss 0)) none
+  pub text : (bytes : List ℕ) → slot_text bytes o 0 ≡ choose named (Some (spans.text_at bytes ss 0)) None
   pub bytes : size ≡ choose named (spans.length_at ss 0) 0
   pub inside : offset_at o 0 + length_at o 0 ≡ choose named (spans.offset_at ss 0 + spans.length_at ss 0) 0
   pub kept : (j : ℕ) → 3 ≤ j → get_or o j 0 ≡ get_or d j 0

@@ -9,7 +9,8 @@ ghost use Rattle.recognizer.specs.StatedPolicy.{stated_policy};
 ghost use Rattle.recognizer.specs.Told.{table_read, TableHeld, WorkRoom};
 ghost use Rattle.tables.specs.NamedTable.{name_of, named_table, AnswerHeld, NameIn, NamePut, Named};
 
-use recognizer::{Recognized, SlotTable};
+use model::Refusal;
+use recognizer::SlotTable;
 use record::{ABSENT, PART};
 
 // The name's slot: the first region's text, or none. Answers the name's bytes.
@@ -62,15 +63,11 @@ pub fn plane_table(
     named: bool,
     upright: &mut [u32],
     slots: &mut [u32],
-) -> Recognized
+) -> Result<SlotTable, Refusal>
     requires { WorkRoom plane.now n bytes.now spans.now count upright.old slots.old × NameIn named bytes.now spans.now count }
     ensures table { named_table result bytes.now slots.new ≡ table_read (stated_policy (name_of named (text_in bytes.now spans.now count)) (text_in bytes.now spans.now count) (plane_in plane.now n)) }
     ensures held { AnswerHeld result bytes.now slots.new }
 {
-    match recognizer::recognize(plane, n, bytes, spans, count, upright, slots) {
-        Recognized::Stands(t) => {
-            Recognized::Stands(add_name(t, bytes, spans, count, slots, named))
-        }
-        Recognized::NotRecognized(r) => Recognized::NotRecognized(r),
-    }
+    let t = recognizer::recognize(plane, n, bytes, spans, count, upright, slots)?;
+    Ok(add_name(t, bytes, spans, count, slots, named))
 }

@@ -16,6 +16,7 @@ fn skip_white(s: &[u8], at: usize) -> usize
     ensures { (at ≤ result) × (result ≤ length s.now) × (codes (drop result s.now) ≡ lead (codes (drop at s.now))) × SameCheck s.now at result }
 {
     let mut p = at;
+    // No `for`: each turn goes on by the bytes of a code point.
     while p < s.len() {
         let d = utf8::next(s, p);
         match d {
@@ -67,21 +68,15 @@ fn seen_of(d: Decoded) -> Seen
     }
 }
 
-fn wide(x: u8) -> u32
-    ensures { (result ≡ x) × (x < 256) }
-{
-    x as u32
-}
-
 // Four bytes from a place on as a number, the first as the lowest. They are read at once.
 fn word(s: &[u8], at: usize) -> u32
     requires { at + 4 ≤ length s.now }
     ensures { WordAt s.now at result }
 {
-    wide(s[at])
-        + wide(s[at + 1]) * 0x100
-        + wide(s[at + 2]) * 0x1_0000
-        + wide(s[at + 3]) * 0x100_0000
+    u32::from(s[at])
+        + u32::from(s[at + 1]) * 0x100
+        + u32::from(s[at + 2]) * 0x1_0000
+        + u32::from(s[at + 3]) * 0x100_0000
 }
 
 // Whether three bytes at a place are E2, 94 or 95, 80 to BF, as those of all box characters are. Not told of the last three.
@@ -164,6 +159,7 @@ fn line_rest(s: &[u8], from: usize) -> Rest
     let mut k: usize = 0;
     let mut count: usize = 0;
     let mut last = s.len();
+    // No `for`: each turn goes on by the bytes of a code point.
     while p < s.len() {
         let e = seen_at(s, p);
         match e {

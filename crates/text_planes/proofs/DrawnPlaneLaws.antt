@@ -1,11 +1,11 @@
 -- The ways of reading the plane of a drawing, and the slices that hold it.
+use Rattle.std.specs.Prelude.{Ok, Err}
 use mathlib.Core.Path.{◌≡◌, sym, subst}
 use mathlib.Core.List.{List}
 use Prim.Native.Nat.{ℕ, ◌*◌, ◌≤◌}
 use native.Mathlib.Omega.{arith}
 use lib.ListN.{length, take}
 use lib.Seq.{length-take-le}
-use Rattle.lists.specs.Answer.{ok, refused}
 use Rattle.lists.specs.Picture.{Picture}
 use Rattle.lists.proofs.RunLaws.{length_run}
 use Rattle.model.specs.Limits.{text_bytes}
@@ -21,25 +21,24 @@ use Rattle.walks.specs.Frame.{frame_of}
 use Rattle.walks.specs.Kinds as kind
 use Rattle.text_planes.specs.DrawnPlane.{text_plane_by, text_plane_of}
 use Rattle.text_planes.specs.RegionTexts.{Regions, region_texts_of, UsedIn}
-use Rattle.text_planes.specs.declared.RegionsRead.TheVariants.{Read}
 
 module _ (o : Outline) (text thin grid : Picture) (w h : ℕ) where
-  pub no_regions : (r : Refusal) → refused r ≡ region_texts_of text thin w h → refused r ≡ text_plane_of o text thin grid w h
+  pub no_regions : (r : Refusal) → Err r ≡ region_texts_of text thin w h → Err r ≡ text_plane_of o text thin grid w h
   unfolding text_plane_by
   no_regions r e = rw (← e)
 
-  module _ (g : Regions) (e : ok g ≡ region_texts_of text thin w h) where
-    pub no_plane : (r : Refusal) → refused r ≡ plane_of o g.rects grid w h → refused r ≡ text_plane_of o text thin grid w h
+  module _ (g : Regions) (e : Ok g ≡ region_texts_of text thin w h) where
+    pub no_plane : (r : Refusal) → Err r ≡ plane_of o g.rects grid w h → Err r ≡ text_plane_of o text thin grid w h
     unfolding text_plane_by
     no_plane r p = rw (← e, ← p)
 
-    pub with_plane : (P : Plane) → ok P ≡ plane_of o g.rects grid w h → ok (record { plane = P; texts = g.texts }) ≡ text_plane_of o text thin grid w h
+    pub with_plane : (P : Plane) → Ok P ≡ plane_of o g.rects grid w h → Ok (record { plane = P; texts = g.texts }) ≡ text_plane_of o text thin grid w h
     unfolding text_plane_by
     with_plane P p = rw (← e, ← p)
 
 -- a plane of `count` regions
-pub plane-held : (o : Outline) (grid : Picture) (w h n count used : ℕ) (rects d bytes spans : List ℕ) → ok (plane_in d n) ≡ plane_of o (rects_of rects count) grid w h
-    → PlaneFits d n → UsedIn (Read count used) bytes spans → text_bytes ≤ length bytes → count * 2 ≤ length spans → Held d n (take text_bytes bytes) spans count
+pub plane-held : (o : Outline) (grid : Picture) (w h n count used : ℕ) (rects d bytes spans : List ℕ) → Ok (plane_in d n) ≡ plane_of o (rects_of rects count) grid w h
+    → PlaneFits d n → UsedIn (Ok (record { count = count; used = used })) bytes spans → text_bytes ≤ length bytes → count * 2 ≤ length spans → Held d n (take text_bytes bytes) spans count
 plane-held o grid w h n count used rects d bytes spans e f u b s =
     record {
       fits = f;

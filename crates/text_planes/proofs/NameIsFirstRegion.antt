@@ -1,4 +1,5 @@
 -- The name's box, which is found on TEXT, is the first region of THIN. So the name's text is that region's text.
+use Rattle.std.specs.Prelude.{Ok}
 use mathlib.Core.Path.{◌≡◌, refl, sym, ap, ◌∙◌}
 use mathlib.Core.Bool.{Bool, true, false, ◌&&◌, ◌||◌}
 use mathlib.Core.List.{List, [], ◌∷◌, ◌++◌, append_assoc, append-nil}
@@ -8,7 +9,7 @@ use native.Mathlib.Omega.{arith}
 use lib.Dec.{eqb, ltb}
 use lib.ListN.{length}
 use borrow.Author.Tests.{eqb-true}
-use Rattle.lists.specs.Answer.{ok, each, those}
+use Rattle.lists.specs.Answer.{each, those}
 use Rattle.lists.specs.OneOf.{one_of}
 use Rattle.lists.specs.Picture.{Picture, at}
 use Rattle.lists.proofs.AnswerLaws.{refused-ok, then_ok}
@@ -40,12 +41,12 @@ carried f (k ∷ ks) ls e c m =
     carried_step f k c ks ls (eqb c k) refl m b.0 (carried f ks ls b.1 c)
 
 -- the regions behind those so far
-more : (p : Picture) (w h : ℕ) (l : List ℕ) (rs out : List Rect) → each (add_region (frame_of thin p w h) w) l rs ≡ ok out → (s : List Rect) × (out ≡ rs ++ s)
+more : (p : Picture) (w h : ℕ) (l : List ℕ) (rs out : List Rect) → each (add_region (frame_of thin p w h) w) l rs ≡ Ok out → (s : List Rect) × (out ≡ rs ++ s)
 unfolding each
 more p w h [] rs out e = ([], let z : rs ≡ out = cc in sym z ∙ sym (append-nil rs))
 more p w h (i ∷ l) rs out e =
     let s = then_ok (add_region (frame_of thin p w h) w i rs) (each (add_region (frame_of thin p w h) w) l) out e in
-    let f = then_ok (frame_of thin p w h (i % w) (i / w)) (λ r. ok (rs ++ (r ∷ []))) s.0 s.1 in
+    let f = then_ok (frame_of thin p w h (i % w) (i / w)) (λ r. Ok (rs ++ (r ∷ []))) s.0 s.1 in
     let z : rs ++ (f.0 ∷ []) ≡ s.0 = let q = f.2 in cc in
     let m = more p w h l s.0 out s.2 in
     (f.0 ∷ m.0, m.1 ∙ ap (λ (x : List Rect). x ++ m.0) (sym z) ∙ append_assoc rs (f.0 ∷ []) m.0)
@@ -77,7 +78,7 @@ module _ (p : Picture) (w h : ℕ) where
         right = λ j u v. becomes name.right thin.right refl bx j c (omega arith) (F.right j u v);
       }
 
-  module _ (r : Rect) (e : frame_of name p w h 0 0 ≡ ok r) where
+  module _ (r : Rect) (e : frame_of name p w h 0 0 ≡ Ok r) where
     named : Starts name p w h 0 0 r
     named = accepted name p w h 0 0 r e
 
@@ -88,23 +89,23 @@ module _ (p : Picture) (w h : ℕ) where
         let b : 1 ≤ w = omega (arith, f.column) in
         mul-le-mul a b
 
-    pub thin-frame : frame_of thin (thin_picture w h p) w h 0 0 ≡ ok r
+    pub thin-frame : frame_of thin (thin_picture w h p) w h 0 0 ≡ Ok r
     thin-frame =
         accept thin (thin_picture w h p) w h 0 0 thin-sound named.bx named.by (frame_thins named.bx named.by named.frame)
-        ∙ ap ok (sym named.is)
+        ∙ ap Ok (sym named.is)
 
     -- place 0 is the first corner
-    first : (n : ℕ) → n ≡ h * w → (q : Picture) (out : List Rect) → frame_of thin q w h 0 0 ≡ ok r → is_corner (q 0 0) ≡ true
-        → each (add_region (frame_of thin q w h) w) (those (λ i. is_corner (at q w i)) 0 n) [] ≡ ok out → (rest : List Rect) × (out ≡ r ∷ rest)
+    first : (n : ℕ) → n ≡ h * w → (q : Picture) (out : List Rect) → frame_of thin q w h 0 0 ≡ Ok r → is_corner (q 0 0) ≡ true
+        → each (add_region (frame_of thin q w h) w) (those (λ i. is_corner (at q w i)) 0 n) [] ≡ Ok out → (rest : List Rect) × (out ≡ r ∷ rest)
     unfolding those each
     first zero z q out f t g = absurd (omega (arith, places))
     first (suc n) z q out f t g =
         let k : is_corner (at q w 0) ≡ true = rw (zero-mod w, zero-div w) t in
-        let a : add_region (frame_of thin q w h) w 0 [] ≡ ok (r ∷ []) = rw (zero-mod w, zero-div w, f) in
+        let a : add_region (frame_of thin q w h) w 0 [] ≡ Ok (r ∷ []) = rw (zero-mod w, zero-div w, f) in
         more q w h (those (λ i. is_corner (at q w i)) 1 n) (r ∷ []) out (rw (k, a) at g)
 
     -- the theorem
-    pub name_is_first_region : (out : List Rect) → regions_of (thin_picture w h p) w h ≡ ok out → (rest : List Rect) × (out ≡ r ∷ rest)
+    pub name_is_first_region : (out : List Rect) → regions_of (thin_picture w h p) w h ≡ Ok out → (rest : List Rect) × (out ≡ r ∷ rest)
     unfolding regions_by
     name_is_first_region out g =
         let q = thin_picture w h p in

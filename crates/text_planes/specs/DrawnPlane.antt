@@ -1,6 +1,6 @@
 -- The plane that a drawing states, with the texts of its regions: document 01, "Regions and plane".
-use Rattle.std.specs.Prelude.{List, ℕ, ◌≤◌, length, take}
-use Rattle.lists.specs.Answer.{ok, refused, ◌>>=◌}
+use Rattle.std.specs.Prelude.{List, ℕ, ◌≤◌, length, take, Ok, Err}
+use Rattle.lists.specs.Answer.{◌>>=◌}
 use Rattle.lists.specs.Picture.{Picture}
 use Rattle.model.specs.Limits.{plane_size, text_bytes}
 use Rattle.model.specs.Refusals.{Reading}
@@ -14,28 +14,27 @@ use Rattle.walks.specs.Frame.{FrameFinder, frame_of}
 use Rattle.walks.specs.Kinds as kind
 use Rattle.text_planes.specs.RegionTexts.{region_texts_by, RegionRoom}
 use Rattle.text_planes.specs.declared.PlaneRead.{PlaneRead}
-use Rattle.text_planes.specs.declared.PlaneRead.TheVariants.{Rows, NoPlane}
 
 -- the regions of THIN and their texts on TEXT, then the plane of GRID: the texts are counted (7) before the plane is made
 unfoldable pub text_plane_by : FrameFinder → Outline → Picture → Picture → Picture → ℕ → ℕ → Reading TextPlane
 text_plane_by find o text thin grid w h = do
   g ← region_texts_by find text thin w h
   P ← plane_by (find kind.grid grid w h) o g.rects grid w h
-  ok (record { plane = P; texts = g.texts })
+  Ok (record { plane = P; texts = g.texts })
 
 -- the same by walks
 abbrev pub text_plane_of : Outline → Picture → Picture → Picture → ℕ → ℕ → Reading TextPlane
 text_plane_of = text_plane_by frame_of
 
 -- an answer's plane and texts, with the slices that hold them
-abbrev pub plane_read : PlaneRead → List ℕ → List ℕ → List ℕ → Reading TextPlane
-plane_read (Rows n count) plane bytes spans = ok (record { plane = plane_in plane n; texts = texts_in bytes spans count })
-plane_read (NoPlane r) plane bytes spans = refused r
+abbrev pub plane_read : Reading PlaneRead → List ℕ → List ℕ → List ℕ → Reading TextPlane
+plane_read (Ok p) plane bytes spans = Ok (record { plane = plane_in plane p.rows; texts = texts_in bytes spans p.count })
+plane_read (Err r) plane bytes spans = Err r
 
 -- an answer's texts lie in the first 61,440 bytes
-abbrev pub PlaneHeld : PlaneRead → List ℕ → List ℕ → List ℕ → Type 0
-PlaneHeld (Rows n count) plane bytes spans = Held plane n (take text_bytes bytes) spans count
-PlaneHeld (NoPlane r) plane bytes spans = Unit {0}
+abbrev pub PlaneHeld : Reading PlaneRead → List ℕ → List ℕ → List ℕ → Type 0
+PlaneHeld (Ok p) plane bytes spans = Held plane p.rows (take text_bytes bytes) spans p.count
+PlaneHeld (Err r) plane bytes spans = Unit {0}
 
 -- the slices that reading a plane is handed: b takes the regions, m the number of each frame, t the plane
 pub record PlaneRoom (w h : ℕ) (t m g b bytes spans : List ℕ) : Type 0 where

@@ -1,6 +1,6 @@
 -- The regions of a drawing with their texts: document 01, "Regions and plane".
-use Rattle.std.specs.Prelude.{List, ℕ, ◌*◌, ◌≤◌, ◌+◌, length}
-use Rattle.lists.specs.Answer.{ok, refused, ◌>>=◌}
+use Rattle.std.specs.Prelude.{List, ℕ, ◌*◌, ◌≤◌, ◌+◌, length, Ok, Err}
+use Rattle.lists.specs.Answer.{◌>>=◌}
 use Rattle.lists.specs.Picture.{Picture}
 use Rattle.model.specs.Limits.{region_count, text_bytes}
 use Rattle.model.specs.Refusals.{Reading}
@@ -13,9 +13,7 @@ use Rattle.walks.specs.Frame.{FrameFinder, frame_of}
 use Rattle.walks.specs.Kinds.{thin}
 use Rattle.cells.specs.Spans.{texts_in}
 use Rattle.texts.specs.Spans.{SpansIn}
-use Rattle.texts.specs.declared.Gathered.TheVariants.{Texts}
 use Rattle.text_planes.specs.declared.RegionsRead.{RegionsRead}
-use Rattle.text_planes.specs.declared.RegionsRead.TheVariants.{Read, NotRead}
 
 pub record Regions : Type 0 where
   pub rects : List Rect
@@ -26,21 +24,21 @@ unfoldable pub region_texts_by : FrameFinder → Picture → Picture → ℕ →
 region_texts_by find text lines w h = do
   rs ← regions_by (find thin lines w h) lines w h
   ts ← texts_of text rs
-  ok (record { rects = rs; texts = ts })
+  Ok (record { rects = rs; texts = ts })
 
 -- the same by walks
 abbrev pub region_texts_of : Picture → Picture → ℕ → ℕ → Reading Regions
 region_texts_of = region_texts_by frame_of
 
 -- an answer's regions, with the slices that hold them
-abbrev pub regions_in : RegionsRead → List ℕ → List ℕ → List ℕ → Reading Regions
-regions_in (Read count used) rects bytes spans = ok (record { rects = rects_of rects count; texts = texts_in bytes spans count })
-regions_in (NotRead r) rects bytes spans = refused r
+abbrev pub regions_in : Reading RegionsRead → List ℕ → List ℕ → List ℕ → Reading Regions
+regions_in (Ok g) rects bytes spans = Ok (record { rects = rects_of rects g.count; texts = texts_in bytes spans g.count })
+regions_in (Err r) rects bytes spans = Err r
 
 -- an answer's texts lie in the bytes that are used
-abbrev pub UsedIn : RegionsRead → List ℕ → List ℕ → Type 0
-UsedIn (Read count used) bytes spans = (count ≤ region_count) × SpansIn (Texts used) bytes spans count
-UsedIn (NotRead r) bytes spans = Unit {0}
+abbrev pub UsedIn : Reading RegionsRead → List ℕ → List ℕ → Type 0
+UsedIn (Ok g) bytes spans = (g.count ≤ region_count) × SpansIn (Ok g.used) bytes spans g.count
+UsedIn (Err r) bytes spans = Unit {0}
 
 -- the slices that reading regions is handed
 pub record RegionRoom (w h : ℕ) (text thin rects bytes spans : List ℕ) : Type 0 where

@@ -8,15 +8,12 @@ ghost use Rattle.text_planes.specs.RegionTexts.{region_texts_of, regions_in, Use
 
 use model::Refusal;
 use outline::Outline;
-use regions::Counted;
-use step::PlaneMade;
-use texts::Gathered;
 
-// So many regions, whose texts have so many bytes; or a refusal.
+// So many regions, whose texts have so many bytes.
 #[derive(Clone, Copy)]
-pub enum RegionsRead {
-    Read(usize, usize),
-    NotRead(Refusal),
+pub struct RegionsRead {
+    pub count: usize,
+    pub used: usize,
 }
 
 // The regions of THIN with their texts on TEXT.
@@ -28,25 +25,21 @@ pub fn read_regions(
     rects: &mut [u32],
     bytes: &mut [u8],
     spans: &mut [u32],
-) -> RegionsRead
+) -> Result<RegionsRead, Refusal>
     requires { RegionRoom w h text.now thins.now rects.old bytes.old spans.old }
     ensures answer { regions_in result rects.new bytes.new spans.new ≡ region_texts_of (canvas w h text.now) (canvas w h thins.now) w h }
     ensures used { UsedIn result bytes.new spans.new }
 {
-    match regions::regions(thins, w, h, rects) {
-        Counted::Regions(n) => match texts::gather(text, w, h, rects, n, bytes, spans) {
-            Gathered::Texts(used) => RegionsRead::Read(n, used),
-            Gathered::NotGathered(r) => RegionsRead::NotRead(r),
-        },
-        Counted::NotCounted(r) => RegionsRead::NotRead(r),
-    }
+    let count = regions::regions(thins, w, h, rects)?;
+    let used = texts::gather(text, w, h, rects, count, bytes, spans)?;
+    Ok(RegionsRead { count, used })
 }
 
-// So many rows of a plane, with so many regions; or a refusal.
+// So many rows of a plane, with so many regions.
 #[derive(Clone, Copy)]
-pub enum PlaneRead {
-    Rows(usize, usize),
-    NoPlane(Refusal),
+pub struct PlaneRead {
+    pub rows: usize,
+    pub count: usize,
 }
 
 // The plane of the layers of a drawing, and the texts of its regions. Once there is GRID, BODY is not needed: the regions
@@ -62,18 +55,12 @@ pub fn read_plane(
     h: usize,
     bytes: &mut [u8],
     spans: &mut [u32],
-) -> PlaneRead
+) -> Result<PlaneRead, Refusal>
     requires { PlaneRoom w h text.old thins.old grid.now bodies.old bytes.old spans.old }
     ensures answer { plane_read result text.new bytes.new spans.new ≡ text_plane_of o (canvas w h text.old) (canvas w h thins.old) (canvas w h grid.now) w h }
     ensures held { PlaneHeld result text.new bytes.new spans.new }
 {
-    match read_regions(text, thins, w, h, bodies, bytes, spans) {
-        RegionsRead::Read(count, _) => match step::make_plane(
-            o, grid, w, h, bodies, count, thins, text,
-        ) {
-            PlaneMade::Made(n) => PlaneRead::Rows(n, count),
-            PlaneMade::NotMade(r) => PlaneRead::NoPlane(r),
-        },
-        RegionsRead::NotRead(r) => PlaneRead::NoPlane(r),
-    }
+    let count = read_regions(text, thins, w, h, bodies, bytes, spans)?.count;
+    let rows = step::make_plane(o, grid, w, h, bodies, count, thins, text)?;
+    Ok(PlaneRead { rows, count })
 }

@@ -1,4 +1,5 @@
 -- Texts that are being gathered, one behind the other.
+use Rattle.std.specs.Prelude.{Ok, Err}
 use mathlib.Core.Path.{◌≡◌, refl, sym, ◌∙◌}
 use mathlib.Core.List.{List, map}
 use Prim.Native.Nat.{ℕ, suc, ◌+◌, ◌-◌, ◌*◌, ◌≤◌, ◌<◌}
@@ -7,7 +8,6 @@ use native.Mathlib.Omega.{arith}
 use lib.Dec.{ltb}
 use lib.ListN.{length, length-set}
 use borrow.Author.Tests.{ltb-true, ltb-false}
-use Rattle.lists.specs.Answer.{ok, refused}
 use Rattle.lists.specs.Picture.{canvas}
 use Rattle.lists.specs.Run.{run, build}
 use Rattle.lists.proofs.RunLaws.{build-same, map-run}
@@ -18,7 +18,6 @@ use Rattle.rects.specs.Rects.{rect_at, rects_of, RectIn}
 use Rattle.texts.specs.RegionText.{text_of, packed, texts_of}
 use Rattle.cells.specs.Spans.{offset_at, length_at, text_at, texts_in}
 use Rattle.texts.specs.Spans.{SpansIn, Slices, PutAt}
-use Rattle.texts.specs.declared.Gathered.TheVariants.{Texts}
 use Rattle.texts.proofs.BuildLaws.{build-next, grows}
 use Rattle.texts.proofs.SpanLaws.{spanned, offset-before, length_before, offset-here, length-here, text-before, text-here}
 use Rattle.texts.proofs.TextsLaws.{texts-all, texts_over, length_snoc}
@@ -75,7 +74,7 @@ module _ {w h : ℕ} {t rs d s₀ : List ℕ} {n : ℕ} {out s : List ℕ} {k at
     here = omega (arith, q.slices.spans, q.spans)
 
     module _ {o : List ℕ} {e : ℕ} (m : PutAt (text w h t rs k) out o at e) where
-      pub gathering_over : text_bytes < e → refused OverLimit ≡ texts_of (canvas w h t) (rects_of rs n)
+      pub gathering_over : text_bytes < e → Err OverLimit ≡ texts_of (canvas w h t) (rects_of rs n)
       gathering_over u =
           let b : text_bytes < size w h t rs n = omega (arith, size_grows w h t rs (suc k) n (omega arith), size-next w h t rs k, m.ends, q.sized) in
           sym (texts_over (canvas w h t) (rects_of rs n) (rw (texts_built w h t rs n) b))
@@ -132,10 +131,10 @@ module _ {w h : ℕ} {t rs d s₀ : List ℕ} {n : ℕ} {out s : List ℕ} {k at
     all_told : texts_in out s n ≡ build n (text w h t rs)
     all_told = build-same n (text_at out s) (text w h t rs) (λ j v. q.told j (omega (arith, all)))
 
-    pub gathering_texts : ok (texts_in out s n) ≡ texts_of (canvas w h t) (rects_of rs n)
+    pub gathering_texts : Ok (texts_in out s n) ≡ texts_of (canvas w h t) (rects_of rs n)
     gathering_texts =
         let b : size w h t rs n ≤ text_bytes = omega (arith, rw all at q.sized, q.room) in
         rw (all_told, ← texts_built w h t rs n) (sym (texts-all (canvas w h t) (rects_of rs n) (rw (texts_built w h t rs n) b)))
 
-    pub gathering_spans : SpansIn (Texts at) out s n
+    pub gathering_spans : SpansIn (Ok at) out s n
     gathering_spans = (rw (all_told, ← all) q.sized, (q.room, λ j v. q.inside j (omega (arith, all))))

@@ -1,6 +1,5 @@
 -- The text of a region: document 01, "Regions and plane", and `text_from_rect` of the Rust.
-use Rattle.std.specs.Prelude.{List, [], ◌∷◌, ◌++◌, map, ℕ, ◌+◌, ◌-◌, ltb, length}
-use Rattle.lists.specs.Answer.{ok, refused}
+use Rattle.std.specs.Prelude.{List, [], ◌∷◌, ◌++◌, map, ℕ, ◌+◌, ◌-◌, ltb, length, Ok, Err}
 use Rattle.lists.specs.Choose.{choose}
 use Rattle.lists.specs.Picture.{Picture}
 use Rattle.lists.specs.Run.{build}
@@ -36,4 +35,4 @@ packed (t ∷ ts) = t ++ packed ts
 
 -- the texts of all regions; over 61,440 bytes together they are refused (7)
 unfoldable pub texts_of : Picture → List Rect → Reading (List (List ℕ))
-texts_of p rs = choose (ltb text_bytes (length (packed (map (text_of p) rs)))) (refused OverLimit) (ok (map (text_of p) rs))
+texts_of p rs = choose (ltb text_bytes (length (packed (map (text_of p) rs)))) (Err OverLimit) (Ok (map (text_of p) rs))

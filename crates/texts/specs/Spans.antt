@@ -1,25 +1,22 @@
 -- What gathering texts answers, with the slices that hold them.
-use Rattle.std.specs.Prelude.{List, ◌≡◌, ℕ, ◌+◌, ◌*◌, ◌≤◌, ◌<◌, min, length}
-use Rattle.lists.specs.Answer.{ok, refused}
+use Rattle.std.specs.Prelude.{List, ◌≡◌, ℕ, ◌+◌, ◌*◌, ◌≤◌, ◌<◌, min, length, Ok, Err}
 use Rattle.lists.specs.Put.{put}
 use Rattle.model.specs.Limits.{text_bytes}
 use Rattle.model.specs.Refusals.{Reading}
 use Rattle.cells.specs.Spans.{offset_at, length_at, texts_in}
 use Rattle.rects.specs.Rects.{rect_at, RectIn}
 use Rattle.texts.specs.RegionText.{packed}
-use Rattle.texts.specs.declared.Gathered.{Gathered}
-use Rattle.texts.specs.declared.Gathered.TheVariants.{Texts, NotGathered}
 
 -- an answer's texts, with the slices that hold them
-abbrev pub gathered_in : Gathered → List ℕ → List ℕ → ℕ → Reading (List (List ℕ))
-gathered_in (Texts used) bytes spans n = ok (texts_in bytes spans n)
-gathered_in (NotGathered r) bytes spans n = refused r
+abbrev pub gathered_in : Reading ℕ → List ℕ → List ℕ → ℕ → Reading (List (List ℕ))
+gathered_in (Ok used) bytes spans n = Ok (texts_in bytes spans n)
+gathered_in (Err r) bytes spans n = Err r
 
 -- an answer's texts have so many bytes, at most 61,440, and each lies in them
-abbrev pub SpansIn : Gathered → List ℕ → List ℕ → ℕ → Type 0
-SpansIn (Texts used) bytes spans n =
+abbrev pub SpansIn : Reading ℕ → List ℕ → List ℕ → ℕ → Type 0
+SpansIn (Ok used) bytes spans n =
     (used ≡ length (packed (texts_in bytes spans n))) × ((used ≤ text_bytes) × ((k : ℕ) → k < n → offset_at spans k + length_at spans k ≤ used))
-SpansIn (NotGathered r) bytes spans n = Unit {0}
+SpansIn (Err r) bytes spans n = Unit {0}
 
 -- the slices that gathering is handed: n rects that lie in w columns and h rows, and room for 61,440 bytes with the four of a code point more
 pub record Slices (w h : ℕ) (t rs b s : List ℕ) (n : ℕ) : Type 0 where

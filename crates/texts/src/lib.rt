@@ -13,26 +13,17 @@ ghost use Rattle.texts.specs.Spans.{gathered_in, SpansIn, Slices, PutAt};
 use model::Refusal;
 use model::limits::TEXT_BYTES;
 
-// So many bytes hold the texts, or why they do not.
-#[derive(Clone, Copy)]
-pub enum Gathered {
-    Texts(usize),
-    NotGathered(Refusal),
-}
-
 // The characters from one place up to another, into the bytes from `at` on.
 fn put_part(text: &[u32], from: usize, to: usize, bytes: &mut [u8], at: usize) -> usize
     requires { (from ≤ to) × (to ≤ length text.now) × (at ≤ text_bytes) × (text_bytes + 4 ≤ length bytes.old) }
     ensures { PutAt (encodes (take (to - from) (drop from text.now))) bytes.old bytes.new at result }
 {
-    let mut i = from;
     let mut p = at;
-    while i < to {
+    for i in from..to {
         if TEXT_BYTES < p {
             return TEXT_BYTES + 1;
         }
         p = encoding::put_code(bytes, p, text[i]);
-        i += 1;
     }
     if TEXT_BYTES < p {
         return TEXT_BYTES + 1;
@@ -82,15 +73,13 @@ fn put_text(
     let from = r.left + 1;
     let to = r.right - 1;
     let bottom = r.bottom - 1;
-    let mut y = r.top + 1;
     let mut at = start;
-    while y < bottom {
+    for y in r.top + 1..bottom {
         let part = white_space::trim_codes_part(text, y * w + from, y * w + to);
         at = put_next(text, part.from, part.to, bytes, start, at);
         if TEXT_BYTES < at {
             return TEXT_BYTES + 1;
         }
-        y += 1;
     }
     at
 }
@@ -104,22 +93,20 @@ pub fn gather(
     n: usize,
     bytes: &mut [u8],
     spans: &mut [u32],
-) -> Gathered
+) -> Result<usize, Refusal>
     requires { Slices w h text.now rects.now bytes.old spans.old n }
     ensures answer { gathered_in result bytes.new spans.new n ≡ texts_of (canvas w h text.now) (rects_of rects.now n) }
     ensures spans { SpansIn result bytes.new spans.new n }
 {
-    let mut k = 0;
     let mut at = 0;
-    while k < n {
+    for k in 0..n {
         let e = put_text(text, w, h, rects, k, bytes, at);
         if TEXT_BYTES < e {
-            return Gathered::NotGathered(Refusal::OverLimit);
+            return Err(Refusal::OverLimit);
         }
         spans[k * 2] = at as u32;
         spans[k * 2 + 1] = (e - at) as u32;
         at = e;
-        k += 1;
     }
-    Gathered::Texts(at)
+    Ok(at)
 }

@@ -74,19 +74,16 @@ pub fn make_thin(
     ensures { canvas width rows thins.new ≡ thin_picture width rows (canvas width rows text.now) }
 {
     let n = rows * width;
-    let mut i = 0;
     let mut kept = SPACE;
     let mut made = SPACE;
-    while i < n {
+    for i in 0..n {
         let code = text[i];
         if code == kept {
             thins[i] = made;
-            i += 1;
         } else {
             thin_at(text, thins, body, grid, i);
             kept = code;
             made = thins[i];
-            i += 1;
         }
     }
 }

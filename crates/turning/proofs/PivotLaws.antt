@@ -1,4 +1,5 @@
 -- The ways of a pivot, and all rows but the last.
+use Rattle.std.specs.Prelude.{Ok, Err}
 use mathlib.Core.Path.{◌≡◌, refl, sym, ap, ◌∙◌}
 use mathlib.Core.Bool.{true, false}
 use mathlib.Core.List.{List, ◌∷◌, map}
@@ -6,7 +7,6 @@ use Prim.Native.Nat.{ℕ, zero, suc, ◌-◌, ◌<◌}
 use native.Mathlib.Omega.{arith}
 use borrow.Author.Tests.{lt-ltb}
 use lib.ListN.{length, get_or, drop}
-use Rattle.lists.specs.Answer.{ok, refused}
 use Rattle.lists.specs.Run.{run, build}
 use Rattle.model.specs.Cells.{turned_cell}
 use Rattle.model.specs.Refusals.{Reading}
@@ -28,24 +28,24 @@ unfolding plane_in
 but_plane d zero h = absurd (omega arith)
 but_plane d (suc n) h = let e : suc n - 1 ≡ n = omega arith in but_run (row_in d) 0 n ∙ ap (λ (k : ℕ). build k (row_in d)) (sym e)
 
-pub pivot_none : (d : List ℕ) (n : ℕ) → n ≡ 0 → refused PlaneMalformed ≡ pivot_of (plane_in d n)
+pub pivot_none : (d : List ℕ) (n : ℕ) → n ≡ 0 → Err PlaneMalformed ≡ pivot_of (plane_in d n)
 unfolding pivot_of
 pivot_none d n e = let z : length (plane_in d n) ≡ 0 = length-plane d n ∙ e in rw z
 
 module _ (d : List ℕ) (n : ℕ) (h : 0 < n) where
-  pub pivot_narrow : wide (get_or d 0 0) (plane_in d n) ≡ false → refused PlaneMalformed ≡ pivot_of (plane_in d n)
+  pub pivot_narrow : wide (get_or d 0 0) (plane_in d n) ≡ false → Err PlaneMalformed ≡ pivot_of (plane_in d n)
   unfolding pivot_of
   pivot_narrow e = rw (length-plane d n, lt-ltb 0 n h, plane-width d n h, e)
 
   pub pivot_wide : (out : List ℕ) → wide (get_or d 0 0) (plane_in d n) ≡ true
-      → plane_in out (get_or d 0 0) ≡ build (get_or d 0 0) (λ j. build n (λ i. turned_cell (cell_at d i j))) → ok (plane_in out (get_or d 0 0)) ≡ pivot_of (plane_in d n)
+      → plane_in out (get_or d 0 0) ≡ build (get_or d 0 0) (λ j. build n (λ i. turned_cell (cell_at d i j))) → Ok (plane_in out (get_or d 0 0)) ≡ pivot_of (plane_in d n)
   unfolding pivot_of
   pivot_wide out e q =
       let z = q ∙ columns-turned d n (get_or d 0 0) e (plane-width d n h) in
       rw (z, length-plane d n, lt-ltb 0 n h, plane-width d n h, e)
 
 module _ (o : Orientation) (d : List ℕ) (n : ℕ) where
-  pub row-sheet : (out : List ℕ) → o ≡ RulesAsRows → plane_in out n ≡ map (drop 1) (plane_in d n) → ok (plane_in out n) ≡ upright_of o (plane_in d n)
+  pub row-sheet : (out : List ℕ) → o ≡ RulesAsRows → plane_in out n ≡ map (drop 1) (plane_in d n) → Ok (plane_in out n) ≡ upright_of o (plane_in d n)
   unfolding upright_of
   row-sheet out e q = rw (e, q)
 

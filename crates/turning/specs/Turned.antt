@@ -1,11 +1,8 @@
 -- What turning answers, with the slice that holds the turned plane.
-use Rattle.std.specs.Prelude.{List, ℕ, ◌≤◌, length}
-use Rattle.lists.specs.Answer.{ok, refused}
+use Rattle.std.specs.Prelude.{List, ℕ, ◌≤◌, length, Ok, Err}
 use Rattle.model.specs.Limits.{plane_size}
 use Rattle.model.specs.Refusals.{Reading}
 use Rattle.cells.specs.Plane.{Plane, plane_in, PlaneFits}
-use Rattle.turning.specs.declared.Turned.{Turned}
-use Rattle.turning.specs.declared.Turned.TheVariants.{Rows, NotTurned}
 
 -- a plane of n rows in one slice, and room for one in another
 pub record Planes (d : List ℕ) (n : ℕ) (out : List ℕ) : Type 0 where
@@ -13,10 +10,10 @@ pub record Planes (d : List ℕ) (n : ℕ) (out : List ℕ) : Type 0 where
   pub room : plane_size ≤ length out
 
 -- an answer's plane
-abbrev pub turned_in : Turned → List ℕ → Reading Plane
-turned_in (Rows n) d = ok (plane_in d n)
-turned_in (NotTurned r) d = refused r
+abbrev pub turned_in : Reading ℕ → List ℕ → Reading Plane
+turned_in (Ok n) d = Ok (plane_in d n)
+turned_in (Err r) d = Err r
 
-abbrev pub TurnedFits : Turned → List ℕ → Type 0
-TurnedFits (Rows n) d = PlaneFits d n
-TurnedFits (NotTurned r) d = Unit {0}
+abbrev pub TurnedFits : Reading ℕ → List ℕ → Type 0
+TurnedFits (Ok n) d = PlaneFits d n
+TurnedFits (Err r) d = Unit {0}

@@ -1,6 +1,5 @@
 -- The upright sheet of a plane: `remove_first_column`, `remove_last_row` and `pivot` of the Rust.
-use Rattle.std.specs.Prelude.{Bool, true, ◌&&◌, List, [], ◌∷◌, map, ℕ, leb, ltb, length, drop}
-use Rattle.lists.specs.Answer.{ok, refused}
+use Rattle.std.specs.Prelude.{Bool, true, ◌&&◌, List, [], ◌∷◌, map, ℕ, leb, ltb, length, drop, Ok, Err}
 use Rattle.lists.specs.Choose.{choose}
 use Rattle.lists.specs.Transpose.{width, transpose}
 use Rattle.model.specs.Cells.{turned_cell}
@@ -28,9 +27,9 @@ turned P = transpose turned_cell MainDoubleCrossing P
 
 -- the columns of a plane as rows: as many as the first row has cells. A shorter row is 10, as is a plane without rows; a longer row is cut
 unfoldable pub pivot_of : Plane → Reading Plane
-pivot_of P = choose (ltb 0 (length P) && wide (width P) P) (ok (turned P)) (refused PlaneMalformed)
+pivot_of P = choose (ltb 0 (length P) && wide (width P) P) (Ok (turned P)) (Err PlaneMalformed)
 
 -- a row sheet loses its numbers' column; a column sheet its numbers' row, and is turned
 unfoldable pub upright_of : Orientation → Plane → Reading Plane
-upright_of RulesAsRows P = ok (map (drop 1) P)
+upright_of RulesAsRows P = Ok (map (drop 1) P)
 upright_of RulesAsColumns P = pivot_of (but_last P)

@@ -22,12 +22,10 @@ fn copy_row(plane: &[u32], n: usize, row: usize, out: &mut [u32]) -> usize
     if width == 0 {
         return 0;
     }
-    let mut i = 0;
-    while i < width - 1 {
+    for i in 0..width - 1 {
         cells::put_cell(out, row, i, cells::cell_at(plane, row, i + 1));
-        i += 1;
     }
-    i
+    width - 1
 }
 
 // A plane of n rows without its first column.
@@ -36,11 +34,9 @@ fn remove_first_column(plane: &[u32], n: usize, out: &mut [u32])
     ensures rows { plane_in out.new n ≡ map (drop 1) (plane_in plane.now n) }
     ensures fits { PlaneFits out.new n }
 {
-    let mut row = 0;
-    while row < n {
+    for row in 0..n {
         let count = copy_row(plane, n, row, out);
         cells::end_row(out, row, count);
-        row += 1;
     }
 }
 
@@ -50,10 +46,8 @@ fn turn_column(plane: &[u32], n: usize, j: usize, out: &mut [u32])
     ensures cells { cells_in out.new j n ≡ build n (λ i. turned_cell (cell_at plane.now i j)) }
     ensures before { KeptBefore out.old out.new j }
 {
-    let mut i = 0;
-    while i < n {
-        cells::put_cell(out, j, i, model::turned_cell(cells::cell_at(plane, i, j)));
-        i += 1;
+    for i in 0..n {
+        cells::put_cell(out, j, i, cells::cell_at(plane, i, j).turned());
     }
 }
 
@@ -63,11 +57,9 @@ fn turn_columns(plane: &[u32], n: usize, w: usize, out: &mut [u32])
     ensures rows { plane_in out.new w ≡ build w (λ j. build n (λ i. turned_cell (cell_at plane.now i j))) }
     ensures fits { PlaneFits out.new w }
 {
-    let mut j = 0;
-    while j < w {
+    for j in 0..w {
         turn_column(plane, n, j, out);
         cells::end_row(out, j, n);
-        j += 1;
     }
 }
 
@@ -76,42 +68,33 @@ fn is_wide(plane: &[u32], n: usize, w: usize) -> bool
     requires { PlaneFits plane.now n }
     ensures { result ≡ wide w (plane_in plane.now n) }
 {
-    let mut row = 0;
-    while row < n {
+    for row in 0..n {
         if (plane[row] as usize) < w {
             return false;
         }
-        row += 1;
     }
     true
 }
 
-// So many rows stand in the slice, or why they cannot.
-#[derive(Clone, Copy)]
-pub enum Turned {
-    Rows(usize),
-    NotTurned(Refusal),
-}
-
 // The columns of n rows as rows.
-fn pivot(plane: &[u32], n: usize, out: &mut [u32]) -> Turned
+fn pivot(plane: &[u32], n: usize, out: &mut [u32]) -> Result<usize, Refusal>
     requires { Planes plane.now n out.old }
     ensures turned { turned_in result out.new ≡ pivot_of (plane_in plane.now n) }
     ensures fits { TurnedFits result out.new }
 {
     if n == 0 {
-        return Turned::NotTurned(Refusal::PlaneMalformed);
+        return Err(Refusal::PlaneMalformed);
     }
     let w = plane[0] as usize;
     if !is_wide(plane, n, w) {
-        return Turned::NotTurned(Refusal::PlaneMalformed);
+        return Err(Refusal::PlaneMalformed);
     }
     turn_columns(plane, n, w, out);
-    Turned::Rows(w)
+    Ok(w)
 }
 
 // The upright sheet of a plane of n rows.
-pub fn upright(o: Orientation, plane: &[u32], n: usize, out: &mut [u32]) -> Turned
+pub fn upright(o: Orientation, plane: &[u32], n: usize, out: &mut [u32]) -> Result<usize, Refusal>
     requires { Planes plane.now n out.old × (0 < n) }
     ensures turned { turned_in result out.new ≡ upright_of o (plane_in plane.now n) }
     ensures fits { TurnedFits result out.new }
@@ -119,7 +102,7 @@ pub fn upright(o: Orientation, plane: &[u32], n: usize, out: &mut [u32]) -> Turn
     match o {
         Orientation::RulesAsRows => {
             remove_first_column(plane, n, out);
-            Turned::Rows(n)
+            Ok(n)
         }
         Orientation::RulesAsColumns => pivot(plane, n - 1, out),
     }

@@ -1,4 +1,5 @@
 -- Reading and writing UTF-8 undo one another.
+use Rattle.std.specs.Prelude.{Ok, Err}
 use mathlib.Core.Path.{◌≡◌, refl, sym, ap, ◌∙◌}
 use mathlib.Core.Logic.{◌⊎◌, inl, inr}
 use mathlib.Core.Bool.{Bool, true, false}
@@ -15,7 +16,6 @@ use Rattle.lists.specs.Choose.{choose}
 use Rattle.lists.proofs.Tests.{by_flag}
 use Rattle.utf8.specs.declared.Decoded.{Decoded}
 use Rattle.utf8.specs.declared.Decoded.TheVariants.{Char, IllFormed, End}
-use Rattle.utf8.specs.declared.Checked.TheVariants.{Valid, Invalid}
 use Rattle.utf8.specs.Utf8.{Range, ◌–◌, in_range, tail, more, Row, table, by, decode, onward, check, checked, read, codes, encode, encodes}
 use Rattle.utf8.proofs.Utf8Laws.{in_range_of, in_range_lem, row1, row2, row3, row4, row5, row6, row7, row8, row9, decode-fits, check_char, codes_char, encode1, encode2, encode3, encode4}
 
@@ -311,7 +311,7 @@ codes-encodes (c ∷ cs) h =
     codes_char (encode c ++ encodes cs) c (length (encode c)) (decode-encode c (encodes cs) h.0)
     ∙ rw (drop-append_seam (encode c) (encodes cs), codes-encodes cs h.1)
 
-check-encodes : (i : ℕ) (cs : List ℕ) → AllScalar cs → check 0 i (encodes cs) ≡ Valid
+check-encodes : (i : ℕ) (cs : List ℕ) → AllScalar cs → check 0 i (encodes cs) ≡ (Ok tt)
 unfolding encodes check
 check-encodes i [] h = refl
 check-encodes i (c ∷ cs) h =
@@ -319,7 +319,7 @@ check-encodes i (c ∷ cs) h =
     ∙ rw (drop-append_seam (encode c) (encodes cs)) (check-encodes (i + length (encode c)) cs h.1)
 
 -- those bytes are well-formed
-pub checked-encodes : (cs : List ℕ) → AllScalar cs → checked (encodes cs) ≡ Valid
+pub checked-encodes : (cs : List ℕ) → AllScalar cs → checked (encodes cs) ≡ (Ok tt)
 checked-encodes cs h = check-encodes 0 cs h
 
 read_scalar : (k : ℕ) (s : List ℕ) → AllScalar (read k s)
@@ -337,20 +337,20 @@ read_scalar zero (b ∷ s) = go (decode (b ∷ s)) refl (λ k. read_scalar k s)
 pub codes_scalar : (s : List ℕ) → AllScalar (codes s)
 codes_scalar s = read_scalar 0 s
 
-encodes-read : (k i : ℕ) (s : List ℕ) → check k i s ≡ Valid → encodes (read k s) ≡ drop k s
+encodes-read : (k i : ℕ) (s : List ℕ) → check k i s ≡ (Ok tt) → encodes (read k s) ≡ drop k s
 unfolding read check encodes
 encodes-read zero i [] e = refl
 encodes-read (suc k) i [] e = refl
 encodes-read (suc k) i (b ∷ s) e = encodes-read k (i + 1) s e
 encodes-read zero i (b ∷ s) e = go (decode (b ∷ s)) refl e (λ k. encodes-read k (i + 1) s)
   where
-    go : (d : Decoded) → decode (b ∷ s) ≡ d → onward d (Invalid i) (λ c skip. check skip (i + 1) s) ≡ Valid
-        → ((k : ℕ) → check k (i + 1) s ≡ Valid → encodes (read k s) ≡ drop k s) → encodes (onward d [] (λ c skip. c ∷ read skip s)) ≡ b ∷ s
+    go : (d : Decoded) → decode (b ∷ s) ≡ d → onward d (Err i) (λ c skip. check skip (i + 1) s) ≡ (Ok tt)
+        → ((k : ℕ) → check k (i + 1) s ≡ (Ok tt) → encodes (read k s) ≡ drop k s) → encodes (onward d [] (λ c skip. c ∷ read skip s)) ≡ b ∷ s
     go (Char c zero) p e h = let f = decode-fits (b ∷ s) c zero p in absurd (omega arith)
     go (Char c (suc n)) p e h = rw (h (suc n - 1) e, ← encode-decode (b ∷ s) c (suc n) p, sub-one (suc n)) (take-append-drop (suc n) (b ∷ s))
     go IllFormed p e h = let z : ◌≡◌ {A = ℕ} 0 1 = cc in absurd (omega arith)
     go End p e h = let z : ◌≡◌ {A = ℕ} 0 1 = cc in absurd (omega arith)
 
 -- the bytes of a well-formed text's code points are the text
-pub encodes-codes : (s : List ℕ) → checked s ≡ Valid → encodes (codes s) ≡ s
+pub encodes-codes : (s : List ℕ) → checked s ≡ (Ok tt) → encodes (codes s) ≡ s
 encodes-codes s e = encodes-read 0 0 s e

@@ -1,4 +1,5 @@
 -- Laws of UTF-8: rows of table 3-7, reading at a place of the bytes, and the bytes of a code point by its size.
+use Rattle.std.specs.Prelude.{Ok, Err}
 use mathlib.Core.Path.{◌≡◌, refl, ap, ◌∙◌}
 use mathlib.Core.Bool.{Bool, true, false, and-false}
 use mathlib.Core.List.{List, [], ◌∷◌}
@@ -11,7 +12,6 @@ use lib.Seq.{drop-drop}
 use lib.Dec.{leb}
 use borrow.Author.Tests.{le-leb, lt-leb, leb-true}
 use Rattle.utf8.specs.declared.Decoded.{Decoded}
-use Rattle.utf8.specs.declared.Checked.TheVariants.{Valid, Invalid}
 use Rattle.utf8.specs.declared.Decoded.TheVariants.{Char, IllFormed, End}
 use Rattle.lists.specs.Choose.{choose}
 use Rattle.lists.proofs.Parts.{at_cons}
@@ -200,12 +200,12 @@ module _ (s : List ℕ) (at c n : ℕ) (e : decode (drop at s) ≡ Char c n) (h 
   pub codes_at_lem : codes (drop at s) ≡ c ∷ codes (drop (at + n) s)
   codes_at_lem = codes_char (drop at s) c n e ∙ rw (drop-drop n at s)
 
-pub check_bad : (i : ℕ) (s : List ℕ) → decode s ≡ IllFormed → check 0 i s ≡ Invalid i
+pub check_bad : (i : ℕ) (s : List ℕ) → decode s ≡ IllFormed → check 0 i s ≡ Err i
 unfolding check decode
 check_bad i [] e = let z : ◌≡◌ {A = ℕ} 0 1 = cc in absurd (omega arith)
 check_bad i (b ∷ s) e = rw e
 
-pub check_end : (s : List ℕ) (at : ℕ) → length s ≤ at → check 0 at (drop at s) ≡ Valid
+pub check_end : (s : List ℕ) (at : ℕ) → length s ≤ at → check 0 at (drop at s) ≡ (Ok tt)
 unfolding check
 check_end s at h = rw (drop_of_length-le s h)
 
@@ -227,7 +227,7 @@ unfolding decode
 decode-none [] e = refl
 decode-none (a ∷ s) e = absurd (by_char table a s e)
 
-pub check-none : (i : ℕ) (s : List ℕ) → decode s ≡ End → check 0 i s ≡ Valid
+pub check-none : (i : ℕ) (s : List ℕ) → decode s ≡ End → check 0 i s ≡ (Ok tt)
 unfolding check
 check-none i s e = rw (decode-none s e)
 

@@ -1,10 +1,8 @@
 -- UTF-8: the Unicode Standard's table 3-7, well-formed byte sequences, and table 3-6, the code point that one stands for.
-use Rattle.std.specs.Prelude.{Bool, ◌&&◌, List, [], ◌∷◌, ◌++◌, ◌≡◌, ℕ, zero, suc, ◌+◌, ◌-◌, ◌*◌, ◌/◌, ◌%◌, leb, drop}
+use Rattle.std.specs.Prelude.{Bool, ◌&&◌, List, [], ◌∷◌, ◌++◌, ◌≡◌, ℕ, zero, suc, ◌+◌, ◌-◌, ◌*◌, ◌/◌, ◌%◌, leb, drop, Result, Ok, Err}
 use Rattle.lists.specs.Choose.{choose}
 use Rattle.utf8.specs.declared.Decoded.{Decoded}
 use Rattle.utf8.specs.declared.Decoded.TheVariants.{Char, IllFormed, End}
-use Rattle.utf8.specs.declared.Checked.{Checked}
-use Rattle.utf8.specs.declared.Checked.TheVariants.{Valid, Invalid}
 
 -- the numbers from the first to the second, both included
 infix 20 ◌–◌
@@ -71,12 +69,12 @@ onward IllFormed stop rest = stop
 onward End stop rest = stop
 
 -- one sequence after another, from index `at` on: the index of the first that is ill-formed. `skip` counts the bytes of a sequence that are left
-unfoldable pub check : ℕ → ℕ → List ℕ → Checked
-check skip at [] = Valid
+unfoldable pub check : ℕ → ℕ → List ℕ → Result (Unit {0}) ℕ
+check skip at [] = (Ok tt)
 check (suc skip) at (b ∷ s) = check skip (at + 1) s
-check zero at (b ∷ s) = onward (decode (b ∷ s)) (Invalid at) (λ c skip. check skip (at + 1) s)
+check zero at (b ∷ s) = onward (decode (b ∷ s)) (Err at) (λ c skip. check skip (at + 1) s)
 
-abbrev pub checked : List ℕ → Checked
+abbrev pub checked : List ℕ → Result (Unit {0}) ℕ
 checked s = check 0 0 s
 
 -- a check from one place answers what a check from the other does
@@ -84,9 +82,9 @@ abbrev pub SameCheck : List ℕ → ℕ → ℕ → Type 0
 SameCheck s at to = check 0 at (drop at s) ≡ check 0 to (drop to s)
 
 -- a check's answer: what follows for well-formed bytes, or for the index of the first ill-formed sequence
-abbrev pub on_text : {A : Type 0} → Checked → (ℕ → A) → A → A
-on_text Valid bad a = a
-on_text (Invalid at) bad a = bad at
+abbrev pub on_text : {A : Type 0} → Result (Unit {0}) ℕ → (ℕ → A) → A → A
+on_text (Ok tt) bad a = a
+on_text (Err at) bad a = bad at
 
 -- the code points, up to the first ill-formed sequence
 unfoldable pub read : ℕ → List ℕ → List ℕ

@@ -178,13 +178,6 @@ pub fn next(s: &[u8], at: usize) -> Decoded
     Decoded::Char(c, 4)
 }
 
-// Whether all bytes are well-formed, or else the index of the first sequence that is not.
-#[derive(Clone, Copy)]
-pub enum Checked {
-    Valid,
-    Invalid(usize),
-}
-
 // How many bytes a code point has, 0 where there is none.
 fn bytes_of(d: Decoded) -> usize
     ensures { result ≡ bytes_of d }

@@ -6,61 +6,63 @@ ghost use Rattle.emphasis.specs.Emphasis.{choice_of};
 ghost use Rattle.utils.specs.Split.{split_by, split_of, scratch_by, scratch_of, answered, Places, allowed_in};
 
 use model::Refusal;
-use utf8::Checked;
 
-// What the split answers: the own text is the allowed values and there is no default; or so many bytes of the
-// scratch slice are, and the default stands in the text from one place up to another; or a refusal.
+// Rewritten values: so many bytes of the scratch slice are the allowed values, and the default stands in the text from one place up to another.
 #[derive(Clone, Copy)]
-pub enum Split {
-    Own,
-    Rewritten(usize, usize, usize),
-    NotSplit(Refusal),
+pub struct Rewritten {
+    pub bytes: usize,
+    pub from: usize,
+    pub to: usize,
 }
 
-// The value split of a text, with the allowed values in scratch where they are rewritten.
-fn split_text(text: &[u8], scratch: &mut [u8]) -> Split
+// The value split of a text, with the allowed values in scratch where they are rewritten. None is rewritten where the text itself is the
+// allowed values; there is no default then.
+fn split_text(text: &[u8], scratch: &mut [u8]) -> Result<Option<Rewritten>, Refusal>
     ensures answer { answered result text.now scratch.new ≡ split_by (choice_of text.now) text.now (length scratch.old) }
     ensures places { Places result text.now scratch.new }
     ensures scratch { scratch.new ≡ scratch_by (choice_of text.now) text.now scratch.old }
 {
-    let f = emphasis::first_marked(text);
-    let from = f.from;
-    let to = f.to;
-    let a = f.a;
-    let b = f.b;
-    if f.hit {
-        let mut t = [0usize; 80];
-        let k = search::periods_of(&text[from..to], &mut t);
-        let n = rewriting::measure(text, &text[from..to], &text[a..b], &t, k);
-        if scratch.len() < n {
-            return Split::NotSplit(Refusal::OutputSliceShort(n));
-        }
-        rewriting::rewrite(text, &text[from..to], &text[a..b], &t, k, scratch, 0);
-        return Split::Rewritten(n, a, b);
+    let Some(f) = emphasis::first_marked(text) else {
+        return Ok(None);
+    };
+    let part = &text[f.from..f.to];
+    let bare = &text[f.a..f.b];
+    let mut t = [0usize; 80];
+    let k = search::periods_of(part, &mut t);
+    let bytes = rewriting::measure(text, part, bare, &t, k);
+    if scratch.len() < bytes {
+        return Err(Refusal::OutputSliceShort(bytes));
     }
-    Split::Own
+    rewriting::rewrite(text, part, bare, &t, k, scratch, 0);
+    Ok(Some(Rewritten {
+        bytes,
+        from: f.a,
+        to: f.b,
+    }))
 }
 
 // The same, of a text that is first checked to be UTF-8.
-pub fn split_values(text: &[u8], scratch: &mut [u8]) -> Split
+pub fn split_values(text: &[u8], scratch: &mut [u8]) -> Result<Option<Rewritten>, Refusal>
     ensures answer { answered result text.now scratch.new ≡ split_of text.now (length scratch.old) }
     ensures places { Places result text.now scratch.new }
     ensures scratch { scratch.new ≡ scratch_of text.now scratch.old }
 {
-    match code_points::validate(text) {
-        Checked::Invalid(at) => Split::NotSplit(Refusal::InvalidUtf8(at)),
-        Checked::Valid => split_text(text, scratch),
-    }
+    code_points::validate(text).map_err(Refusal::InvalidUtf8)?;
+    split_text(text, scratch)
 }
 
 // The allowed values after the split: the text, or a part of scratch.
-pub fn allowed_values<'a>(text: &'a [u8], scratch: &'a [u8], s: Split) -> &'a [u8]
+pub fn allowed_values<'a>(
+    text: &'a [u8],
+    scratch: &'a [u8],
+    s: Result<Option<Rewritten>, Refusal>,
+) -> &'a [u8]
     ensures { result.now ≡ allowed_in s text.now scratch.now }
 {
     match s {
-        Split::Own => text,
-        Split::Rewritten(n, _, _) => front(scratch, n),
-        Split::NotSplit(_) => text,
+        Ok(Some(r)) => front(scratch, r.bytes),
+        Ok(None) => text,
+        Err(_) => text,
     }
 }
 

@@ -1,8 +1,8 @@
 -- A default is no longer than the text that it is split from.
+use Rattle.std.specs.Prelude.{Some}
 use mathlib.Core.Path.{◌≡◌}
 use mathlib.Core.Bool.{Bool, true, false, ◌&&◌}
 use mathlib.Core.List.{List, [], ◌∷◌}
-use mathlib.Core.Option.{some}
 use Prim.Native.Nat.{ℕ, suc, ◌+◌, ◌-◌, ◌≤◌}
 use native.Mathlib.Omega.{arith}
 use lib.Dec.{eqb}
@@ -62,10 +62,10 @@ first_short m n (p ∷ ps) h =
     either_short m (n + (length p - length (trim_start_utf8 p))) (emphasised marks (trim_utf8 p)) (first_marked (n + length p + 1) ps)
     (mark-short m marks (trim_utf8 p) (omega (arith, trim-length p, h.0))) (first_short m (n + length p + 1) ps h.1)
 
-pub default-length : (t d : List ℕ) → (values_of t).default ≡ some d → length d ≤ length t
+pub default-length : (t d : List ℕ) → (values_of t).default ≡ Some d → length d ≤ length t
 unfolding values_of
 default-length t d e = go (choice_of t) (first_short (length t) 0 (parts t) (parts-short t)) e
   where
-    go : (c : Choice) → BareUpTo (length t) c → (values_by c t).default ≡ some d → length d ≤ length t
+    go : (c : Choice) → BareUpTo (length t) c → (values_by c t).default ≡ Some d → length d ≤ length t
     go plain h e = let z : ◌≡◌ {A = ℕ} 0 1 = cc in absurd (omega arith)
     go (marked place part bare) h e = let z : bare ≡ d = cc in rw (← z) h

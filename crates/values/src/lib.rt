@@ -5,33 +5,28 @@ ghost use Rattle.std.specs.Prelude.{◌≡◌, ◌+◌, ◌≤◌, length};
 ghost use Rattle.lists.specs.Put.{put};
 ghost use Rattle.values.specs.Values.{values_of, MeasuredOf};
 
-// What a text's values come to: the text itself; or so many bytes of rewritten text, and a default that stands in the
-// text from one place up to another.
+// So many bytes of rewritten text, and a default that stands in the text from one place up to another.
 #[derive(Clone, Copy)]
-pub enum Measured {
-    Plain,
-    Marked(usize, usize, usize),
+pub struct Measured {
+    pub bytes: usize,
+    pub from: usize,
+    pub to: usize,
 }
 
-// The value split of a text, measured and not written.
-pub fn measure_values(text: &[u8]) -> Measured
+// The value split of a text, measured and not written; none where its values are the text itself.
+pub fn measure_values(text: &[u8]) -> Option<Measured>
     ensures { MeasuredOf result text.now }
 {
-    let f = emphasis::first_marked(text);
-    let from = f.from;
-    let to = f.to;
-    let a = f.a;
-    let b = f.b;
-    if f.hit {
-        let mut t = [0usize; 80];
-        let k = search::periods_of(&text[from..to], &mut t);
-        return Measured::Marked(
-            rewriting::measure(text, &text[from..to], &text[a..b], &t, k),
-            a,
-            b,
-        );
-    }
-    Measured::Plain
+    let f = emphasis::first_marked(text)?;
+    let part = &text[f.from..f.to];
+    let mut t = [0usize; 80];
+    let k = search::periods_of(part, &mut t);
+    let bytes = rewriting::measure(text, part, &text[f.a..f.b], &t, k);
+    Some(Measured {
+        bytes,
+        from: f.a,
+        to: f.b,
+    })
 }
 
 // The allowed values of a text, into out from index at on; the index behind them.
@@ -40,15 +35,11 @@ pub fn put_values(text: &[u8], out: &mut [u8], at: usize) -> usize
     ensures value { result ≡ at + length (values_of text.now).allowed }
     ensures out_after { out.new ≡ put out.old at (values_of text.now).allowed }
 {
-    let f = emphasis::first_marked(text);
-    let from = f.from;
-    let to = f.to;
-    let a = f.a;
-    let b = f.b;
-    if f.hit {
+    if let Some(f) = emphasis::first_marked(text) {
+        let part = &text[f.from..f.to];
         let mut t = [0usize; 80];
-        let k = search::periods_of(&text[from..to], &mut t);
-        return rewriting::rewrite(text, &text[from..to], &text[a..b], &t, k, out, at);
+        let k = search::periods_of(part, &mut t);
+        return rewriting::rewrite(text, part, &text[f.a..f.b], &t, k, out, at);
     }
     lists::put_bytes(out, at, text);
     at + text.len()

@@ -1,4 +1,5 @@
 -- Four walks accept exactly the frames: the theorems `walk_is_frame` and `one_frame`, for any kind whose sides are sound.
+use Rattle.std.specs.Prelude.{Ok, Err}
 use mathlib.Core.Path.{◌≡◌, refl, sym, ap, ◌∙◌, subst}
 use mathlib.Core.Bool.{Bool, true, false, not, ◌&&◌, ◌||◌}
 use mathlib.Core.List.{List, [], ◌∷◌}
@@ -7,7 +8,6 @@ use Prim.Native.Nat.{ℕ, ◌+◌, ◌-◌, ◌<◌}
 use native.Mathlib.Omega.{arith}
 use lib.Dec.{eqb}
 use borrow.Author.Tests.{eq-eqb, ne_eqb, eqb-true}
-use Rattle.lists.specs.Answer.{ok, refused}
 use Rattle.lists.specs.Choose.{choose}
 use Rattle.lists.specs.OneOf.{one_of}
 use Rattle.lists.specs.Picture.{Picture}
@@ -30,13 +30,13 @@ pub record Sound (K : Kind) : Type 0 where
   pub left : Apart K.top_left K.left
 
 -- the walks ended where they began, or elsewhere
-pub closed : (x y cx cy bx by : ℕ) → cx ≡ x → cy ≡ y → close_of x y cx cy bx by ≡ ok (rect_of x y bx by)
+pub closed : (x y cx cy bx by : ℕ) → cx ≡ x → cy ≡ y → close_of x y cx cy bx by ≡ Ok (rect_of x y bx by)
 closed x y cx cy bx by e f = rw (eq-eqb cx x e, eq-eqb cy y f)
 
-pub open_row : (x y cx cy bx by : ℕ) → cx ≡ x → (cy ≡ y → ⊥) → close_of x y cx cy bx by ≡ refused (RectangleNotClosed cx cy)
+pub open_row : (x y cx cy bx by : ℕ) → cx ≡ x → (cy ≡ y → ⊥) → close_of x y cx cy bx by ≡ Err (RectangleNotClosed cx cy)
 open_row x y cx cy bx by e f = rw (eq-eqb cx x e, ne_eqb cy y f)
 
-pub open_column : (x y cx cy bx by : ℕ) → (cx ≡ x → ⊥) → close_of x y cx cy bx by ≡ refused (RectangleNotClosed cx cy)
+pub open_column : (x y cx cy bx by : ℕ) → (cx ≡ x → ⊥) → close_of x y cx cy bx by ≡ Err (RectangleNotClosed cx cy)
 open_column x y cx cy bx by e = rw (ne_eqb cx x e)
 
 record Shut (x y cx cy bx by : ℕ) (r : Rect) : Type 0 where
@@ -44,69 +44,69 @@ record Shut (x y cx cy bx by : ℕ) (r : Rect) : Type 0 where
   row : cy ≡ y
   is : r ≡ rect_of x y bx by
 
-shut : (x y cx cy bx by : ℕ) (r : Rect) → close_of x y cx cy bx by ≡ ok r → Shut x y cx cy bx by r
+shut : (x y cx cy bx by : ℕ) (r : Rect) → close_of x y cx cy bx by ≡ Ok r → Shut x y cx cy bx by r
 shut x y cx cy bx by r g = go (eqb cx x && eqb cy y) refl g
   where
-    go : (t : Bool) → (eqb cx x && eqb cy y) ≡ t → choose t (ok (rect_of x y bx by)) (refused (RectangleNotClosed cx cy)) ≡ ok r → Shut x y cx cy bx by r
+    go : (t : Bool) → (eqb cx x && eqb cy y) ≡ t → choose t (Ok (rect_of x y bx by)) (Err (RectangleNotClosed cx cy)) ≡ Ok r → Shut x y cx cy bx by r
     go true e q = let b = both (eqb cx x) (eqb cy y) e in record { column = eqb-true cx x b.0; row = eqb-true cy y b.1; is = cc }
     go false e q = refused-ok q
 
 -- each walk stops the frame, or leaves what follows it
 module _ (K : Kind) (p : Picture) (w h x y : ℕ) (r : Refusal) where
-  pub stops_right : go_of Right p w h x y K.top_right K.top ≡ refused r → frame_of K p w h x y ≡ refused r
+  pub stops_right : go_of Right p w h x y K.top_right K.top ≡ Err r → frame_of K p w h x y ≡ Err r
   unfolding frame_of
   stops_right e = rw e
 
-  module _ (a : ℕ) (ea : go_of Right p w h x y K.top_right K.top ≡ ok a) where
-    pub stops_down : go_of Down p w h (x + a) y K.bottom_right K.right ≡ refused r → frame_of K p w h x y ≡ refused r
+  module _ (a : ℕ) (ea : go_of Right p w h x y K.top_right K.top ≡ Ok a) where
+    pub stops_down : go_of Down p w h (x + a) y K.bottom_right K.right ≡ Err r → frame_of K p w h x y ≡ Err r
     unfolding frame_of
     stops_down e = rw (ea, e)
 
-    module _ (b : ℕ) (eb : go_of Down p w h (x + a) y K.bottom_right K.right ≡ ok b) where
-      pub stops_left : go_of Left p w h (x + a) (y + b) K.bottom_left K.bottom ≡ refused r → frame_of K p w h x y ≡ refused r
+    module _ (b : ℕ) (eb : go_of Down p w h (x + a) y K.bottom_right K.right ≡ Ok b) where
+      pub stops_left : go_of Left p w h (x + a) (y + b) K.bottom_left K.bottom ≡ Err r → frame_of K p w h x y ≡ Err r
       unfolding frame_of
       stops_left e = rw (ea, eb, e)
 
-      pub stops_up : (c : ℕ) → go_of Left p w h (x + a) (y + b) K.bottom_left K.bottom ≡ ok c → go_of Up p w h (x + a - c) (y + b) K.top_left K.left ≡ refused r → frame_of K p w h x y ≡ refused r
+      pub stops_up : (c : ℕ) → go_of Left p w h (x + a) (y + b) K.bottom_left K.bottom ≡ Ok c → go_of Up p w h (x + a - c) (y + b) K.top_left K.left ≡ Err r → frame_of K p w h x y ≡ Err r
       unfolding frame_of
       stops_up c ec e = rw (ea, eb, ec, e)
 
-pub walked : (K : Kind) (p : Picture) (w h x y a b c d : ℕ) → go_of Right p w h x y K.top_right K.top ≡ ok a → go_of Down p w h (x + a) y K.bottom_right K.right ≡ ok b
-    → go_of Left p w h (x + a) (y + b) K.bottom_left K.bottom ≡ ok c → go_of Up p w h (x + a - c) (y + b) K.top_left K.left ≡ ok d
+pub walked : (K : Kind) (p : Picture) (w h x y a b c d : ℕ) → go_of Right p w h x y K.top_right K.top ≡ Ok a → go_of Down p w h (x + a) y K.bottom_right K.right ≡ Ok b
+    → go_of Left p w h (x + a) (y + b) K.bottom_left K.bottom ≡ Ok c → go_of Up p w h (x + a - c) (y + b) K.top_left K.left ≡ Ok d
     → frame_of K p w h x y ≡ close_of x y (x + a - c) (y + b - d) (x + a) (y + b)
 unfolding frame_of
 walked K p w h x y a b c d ea eb ec ed = rw (ea, eb, ec, ed)
 
 module _ (K : Kind) (p : Picture) (w h x y : ℕ) where
   -- a frame is accepted
-  accept_at : Sound K → (a b : ℕ) → Frame K p w h x y (x + a) (y + b) → frame_of K p w h x y ≡ ok (rect_of x y (x + a) (y + b))
+  accept_at : Sound K → (a b : ℕ) → Frame K p w h x y (x + a) (y + b) → frame_of K p w h x y ≡ Ok (rect_of x y (x + a) (y + b))
   accept_at S a b F =
       let wa : 0 < a = omega (arith, F.wide) in
       let hb : 0 < b = omega (arith, F.high) in
       let ex : x + a - a ≡ x = omega arith in
       let ey : y + b - b ≡ y = omega arith in
-      let e1 : go_of Right p w h x y K.top_right K.top ≡ ok a =
+      let e1 : go_of Right p w h x y K.top_right K.top ≡ Ok a =
       side_found (ray Right p x y) K.top_right K.top S.top 0 (ahead Right w h x y) a
       (record { past = wa; corner = F.top_right; between = λ i u v. F.top (x + i) (omega arith) (omega arith) }) (omega (arith, F.column)) in
-      let e2 : go_of Down p w h (x + a) y K.bottom_right K.right ≡ ok b =
+      let e2 : go_of Down p w h (x + a) y K.bottom_right K.right ≡ Ok b =
       side_found (ray Down p (x + a) y) K.bottom_right K.right S.right 0 (ahead Down w h (x + a) y) b
       (record { past = hb; corner = F.bottom_right; between = λ i u v. F.right (y + i) (omega arith) (omega arith) }) (omega (arith, F.row)) in
-      let e3 : go_of Left p w h (x + a) (y + b) K.bottom_left K.bottom ≡ ok a =
+      let e3 : go_of Left p w h (x + a) (y + b) K.bottom_left K.bottom ≡ Ok a =
       side_found (ray Left p (x + a) (y + b)) K.bottom_left K.bottom S.bottom 0 (ahead Left w h (x + a) (y + b)) a
       (record { past = wa; corner = rw ex F.bottom_left; between = λ i u v. F.bottom (x + a - i) (omega arith) (omega arith) }) (omega arith) in
-      let e4 : go_of Up p w h (x + a - a) (y + b) K.top_left K.left ≡ ok b =
+      let e4 : go_of Up p w h (x + a - a) (y + b) K.top_left K.left ≡ Ok b =
       rw ex (side_found (ray Up p x (y + b)) K.top_left K.left S.left 0 (ahead Up w h x (y + b)) b
       (record { past = hb; corner = rw ey F.top_left; between = λ i u v. F.left (y + b - i) (omega arith) (omega arith) }) (omega arith)) in
       walked K p w h x y a b a b e1 e2 e3 e4 ∙ closed x y (x + a - a) (y + b - b) (x + a) (y + b) ex ey
 
-  pub accept : Sound K → (bx by : ℕ) → Frame K p w h x y bx by → frame_of K p w h x y ≡ ok (rect_of x y bx by)
+  pub accept : Sound K → (bx by : ℕ) → Frame K p w h x y bx by → frame_of K p w h x y ≡ Ok (rect_of x y bx by)
   accept S bx by F =
       let ex : x + (bx - x) ≡ bx = omega (arith, F.wide) in
       let ey : y + (by - y) ≡ by = omega (arith, F.high) in
       rw (ex, ey) at (accept_at S (bx - x) (by - y) (rw (ex, ey) F))
 
   -- what is accepted is a frame
-  pub accepted : (r : Rect) → frame_of K p w h x y ≡ ok r → Starts K p w h x y r
+  pub accepted : (r : Rect) → frame_of K p w h x y ≡ Ok r → Starts K p w h x y r
   unfolding frame_of
   accepted r e =
       let g1 = then_ok (go_of Right p w h x y K.top_right K.top) _ r e in
@@ -151,8 +151,8 @@ module _ (K : Kind) (p : Picture) (w h x y : ℕ) where
       }
 
   -- "a walk accepts exactly if one does" (document 01): four walks answer a rect exactly if it is that of a frame that starts there
-  pub walk_is_frame : Sound K → (r : Rect) → (frame_of K p w h x y ≡ ok r) ↔ Starts K p w h x y r
-  walk_is_frame S r = (accepted r, λ F. accept S F.bx F.by F.frame ∙ ap ok (sym F.is))
+  pub walk_is_frame : Sound K → (r : Rect) → (frame_of K p w h x y ≡ Ok r) ↔ Starts K p w h x y r
+  walk_is_frame S r = (accepted r, λ F. accept S F.bx F.by F.frame ∙ ap Ok (sym F.is))
 
   -- "At most one frame starts at a point" (document 01)
   pub one_frame : Sound K → (r r' : Rect) → Starts K p w h x y r → Starts K p w h x y r' → r ≡ r'

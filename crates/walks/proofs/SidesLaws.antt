@@ -1,13 +1,13 @@
 -- The finder by sides finds exactly the frames, so it answers what walks answer: the theorem `sides_is_frame`.
+use Rattle.std.specs.Prelude.{Ok, Option, None, Some}
 use mathlib.Core.Path.{◌≡◌, refl, sym, ap, ◌∙◌, subst}
 use mathlib.Core.Bool.{Bool, true, ◌&&◌}
 use mathlib.Core.Logic.{◌↔◌, ⊎_elim}
-use mathlib.Core.Option.{Option, none, some}
 use Prim.Native.Nat.{ℕ, zero, suc, ◌+◌, ◌-◌, ◌≤◌, ◌<◌}
 use native.Mathlib.Nat.{eq-or-lt_of_le}
 use native.Mathlib.Omega.{arith}
 use borrow.Author.Tests.{lt-ltb, ltb-true}
-use Rattle.lists.specs.Answer.{ok, Below}
+use Rattle.lists.specs.Answer.{Below}
 use Rattle.lists.specs.Choose.{choose}
 use Rattle.lists.specs.OneOf.{one_of}
 use Rattle.lists.specs.Picture.{Picture}
@@ -21,7 +21,7 @@ use Rattle.walks.proofs.FrameLaws.{Sound, accepted, walk_is_frame, one_frame}
 and_true : {a b : Bool} → a ≡ true → b ≡ true → (a && b) ≡ true
 and_true {a} {b} p q = rw (p, q)
 
-none-some : {A B : Type 0} {a : A} → ◌≡◌ {A = Option A} none (some a) → B
+none-some : {A B : Type 0} {a : A} → ◌≡◌ {A = Option A} None (Some a) → B
 none-some e = let z : ◌≡◌ {A = ℕ} 0 1 = cc in absurd (omega arith)
 
 pub all_true : (f : ℕ → Bool) (k n : ℕ) → all_from f k n ≡ true → (i : ℕ) → k ≤ i → i < k + n → f i ≡ true
@@ -82,34 +82,34 @@ module _ (K : Kind) (p : Picture) (w h x y bx by : ℕ) where
 
 -- what is found stands at one of the places, and where one stands, one is found
 module _ {A : Type 0} (f : ℕ → Option A) where
-  hit-at : (k n : ℕ) (a : A) (o rest : Option A) → f k ≡ o → (rest ≡ some a → (i : ℕ) × (i < suc k + n) × (f i ≡ some a)) → or_else o rest ≡ some a
-      → (i : ℕ) × (i < k + suc n) × (f i ≡ some a)
-  hit-at k n a (some b) rest p g e = (k, omega arith, p ∙ e)
-  hit-at k n a none rest p g e = let r = g e in (r.0, omega (arith, r.1), r.2)
+  hit-at : (k n : ℕ) (a : A) (o rest : Option A) → f k ≡ o → (rest ≡ Some a → (i : ℕ) × (i < suc k + n) × (f i ≡ Some a)) → or_else o rest ≡ Some a
+      → (i : ℕ) × (i < k + suc n) × (f i ≡ Some a)
+  hit-at k n a (Some b) rest p g e = (k, omega arith, p ∙ e)
+  hit-at k n a None rest p g e = let r = g e in (r.0, omega (arith, r.1), r.2)
 
-  hit : (k n : ℕ) (a : A) → first_of f k n ≡ some a → (i : ℕ) × (i < k + n) × (f i ≡ some a)
+  hit : (k n : ℕ) (a : A) → first_of f k n ≡ Some a → (i : ℕ) × (i < k + n) × (f i ≡ Some a)
   unfolding first_of
   hit k zero a e = none-some e
   hit k (suc n) a e = hit-at k n a (f k) (first_of f (suc k) n) refl (hit (suc k) n a) e
 
-  or_else_lem : (o rest : Option A) → (a : A) × (rest ≡ some a) → (a : A) × (or_else o rest ≡ some a)
-  or_else_lem (some b) rest s = (b, refl)
-  or_else_lem none rest s = s
+  or_else_lem : (o rest : Option A) → (a : A) × (rest ≡ Some a) → (a : A) × (or_else o rest ≡ Some a)
+  or_else_lem (Some b) rest s = (b, refl)
+  or_else_lem None rest s = s
 
-  found : (k n i : ℕ) (a : A) → k ≤ i → i < k + n → f i ≡ some a → (b : A) × (first_of f k n ≡ some b)
+  found : (k n i : ℕ) (a : A) → k ≤ i → i < k + n → f i ≡ Some a → (b : A) × (first_of f k n ≡ Some b)
   unfolding first_of
   found k zero i a p q e = absurd (omega arith)
   found k (suc n) i a p q e =
       ⊎_elim
-      (λ u. let z : f k ≡ some a = ap f u ∙ e in (a, rw z))
+      (λ u. let z : f k ≡ Some a = ap f u ∙ e in (a, rw z))
       (λ u. or_else_lem (f k) (first_of f (suc k) n) (found (suc k) n i a u (omega arith) e))
       (eq-or-lt_of_le p)
 
 module _ (K : Kind) (p : Picture) (w h x y : ℕ) where
   abbrev here : ℕ → ℕ → Option Rect
-  here bx by = choose (drawn K p x y bx by) (some (rect_of x y bx by)) none
+  here bx by = choose (drawn K p x y bx by) (Some (rect_of x y bx by)) None
 
-  at-frame : (r : Rect) → frame_at K p w h x y ≡ some r → Starts K p w h x y r
+  at-frame : (r : Rect) → frame_at K p w h x y ≡ Some r → Starts K p w h x y r
   unfolding frame_at
   at-frame r e =
       let a = hit (λ bx. first_of (here bx) 0 h) 0 w r e in
@@ -117,22 +117,22 @@ module _ (K : Kind) (p : Picture) (w h x y : ℕ) where
       let t = choose-some (drawn K p x y a.0 b.0) (rect_of x y a.0 b.0) r b.2 in
       record { bx = a.0; by = b.0; is = sym t.1; frame = drawn-frame K p w h x y a.0 b.0 (omega (arith, a.1)) (omega (arith, b.1)) t.0 }
 
-  frame-at : Sound K → (r : Rect) → Starts K p w h x y r → frame_at K p w h x y ≡ some r
+  frame-at : Sound K → (r : Rect) → Starts K p w h x y r → frame_at K p w h x y ≡ Some r
   unfolding frame_at
   frame-at S r F =
       let d = frame-drawn K p w h x y F.bx F.by F.frame in
-      let e : here F.bx F.by ≡ some (rect_of x y F.bx F.by) = rw d in
+      let e : here F.bx F.by ≡ Some (rect_of x y F.bx F.by) = rw d in
       let b = found (here F.bx) 0 h F.by _ (omega arith) (omega (arith, F.frame.row)) e in
       let a = found (λ bx. first_of (here bx) 0 h) 0 w F.bx b.0 (omega arith) (omega (arith, F.frame.column)) b.1 in
-      a.1 ∙ ap some (one_frame K p w h x y S a.0 r (at-frame a.0 a.1) F)
+      a.1 ∙ ap Some (one_frame K p w h x y S a.0 r (at-frame a.0 a.1) F)
 
   -- the finder answers a rect exactly if it is that of a frame that starts there
-  pub sides_is_frame : Sound K → (r : Rect) → (frame_at K p w h x y ≡ some r) ↔ Starts K p w h x y r
+  pub sides_is_frame : Sound K → (r : Rect) → (frame_at K p w h x y ≡ Some r) ↔ Starts K p w h x y r
   sides_is_frame S r = (at-frame r, frame-at S r)
 
-  given-some : (o : Option Rect) (r : Rect) → given x y o ≡ ok r → o ≡ some r
-  given-some (some q) r e = cc
-  given-some none r e = refused-ok e
+  given-some : (o : Option Rect) (r : Rect) → given x y o ≡ Ok r → o ≡ Some r
+  given-some (Some q) r e = cc
+  given-some None r e = refused-ok e
 
   -- what walks find, the sides show, and the other way round
   pub walks_sides : Sound K → Below (frame_of K p w h x y) (by_sides K p w h x y)

@@ -1,4 +1,5 @@
 -- Laws of a walk: its turns, and that it finds exactly the sides.
+use Rattle.std.specs.Prelude.{Ok, Err}
 use mathlib.Core.Path.{◌≡◌, refl, sym, ap, ◌∙◌, subst}
 use mathlib.Core.Bool.{Bool, true, false}
 use mathlib.Core.List.{List}
@@ -8,7 +9,6 @@ use native.Mathlib.Nat.{eq-or-lt_of_le}
 use native.Mathlib.Numerals.{add-one}
 use native.Mathlib.Omega.{arith}
 use lib.ListN.{get_or}
-use Rattle.lists.specs.Answer.{ok, refused}
 use Rattle.lists.specs.Choose.{choose}
 use Rattle.lists.specs.OneOf.{one_of}
 use Rattle.lists.proofs.AnswerLaws.{refused-ok}
@@ -21,22 +21,22 @@ use Rattle.walks.specs.Walk.{walk_from, walk_of}
 module _ (line : ℕ → ℕ) (s a : List ℕ) (k n : ℕ) where
   module _ (c : ℕ) (h : k < n) (at : line (k + 1) ≡ c) where
     turn : walk_from line s a k (n - k)
-        ≡ choose (one_of c s) (ok (k + 1)) (choose (one_of c a) (walk_from line s a (k + 1) (n - (k + 1))) (refused (CharacterNotAllowed c)))
+        ≡ choose (one_of c s) (Ok (k + 1)) (choose (one_of c a) (walk_from line s a (k + 1) (n - (k + 1))) (Err (CharacterNotAllowed c)))
     unfolding walk_from
     turn =
         let e : n - k ≡ suc (n - (k + 1)) = omega arith in
         rw (e, ← at, add-one)
 
-    pub turn_found : one_of c s ≡ true → walk_from line s a k (n - k) ≡ ok (k + 1)
+    pub turn_found : one_of c s ≡ true → walk_from line s a k (n - k) ≡ Ok (k + 1)
     turn_found e = turn ∙ rw e
 
-    pub turn_barred : one_of c s ≡ false → one_of c a ≡ false → walk_from line s a k (n - k) ≡ refused (CharacterNotAllowed c)
+    pub turn_barred : one_of c s ≡ false → one_of c a ≡ false → walk_from line s a k (n - k) ≡ Err (CharacterNotAllowed c)
     turn_barred e f = turn ∙ rw (e, f)
 
     pub turn_on : Passes s a c → walk_from line s a k (n - k) ≡ walk_from line s a (k + 1) (n - (k + 1))
     turn_on p = turn ∙ rw (p.0, p.1)
 
-  pub turn_end : n ≤ k → walk_from line s a k (n - k) ≡ refused (CharactersNotFound (get_or s 0 0))
+  pub turn_end : n ≤ k → walk_from line s a k (n - k) ≡ Err (CharactersNotFound (get_or s 0 0))
   unfolding walk_from
   turn_end h =
       let e : n - k ≡ 0 = omega arith in
@@ -65,8 +65,8 @@ module _ (line : ℕ → ℕ) (s a : List ℕ) where
   FoundAt k n j = Side line s a k j × (j ≤ k + n)
 
   step_found : (k n j : ℕ) (b : Bool) → one_of (line (suc k)) s ≡ b → (b' : Bool) → one_of (line (suc k)) a ≡ b'
-      → (W : Reading ℕ) → (W ≡ ok j → FoundAt (suc k) n j)
-      → choose b (ok (suc k)) (choose b' W (refused (CharacterNotAllowed (line (suc k))))) ≡ ok j → FoundAt k (suc n) j
+      → (W : Reading ℕ) → (W ≡ Ok j → FoundAt (suc k) n j)
+      → choose b (Ok (suc k)) (choose b' W (Err (CharacterNotAllowed (line (suc k))))) ≡ Ok j → FoundAt k (suc n) j
   step_found k n j true p b' q W ih e =
       let z : suc k ≡ j = cc in
       (record { past = omega arith; corner = rw (← z) p; between = λ i h g. absurd (omega arith) }, omega arith)
@@ -82,19 +82,19 @@ module _ (line : ℕ → ℕ) (s a : List ℕ) where
   step_found k n j false p false q W ih e = refused-ok e
 
   -- what a walk finds is a side
-  pub found_side : (k n j : ℕ) → walk_from line s a k n ≡ ok j → FoundAt k n j
+  pub found_side : (k n j : ℕ) → walk_from line s a k n ≡ Ok j → FoundAt k n j
   unfolding walk_from
   found_side k zero j e = refused-ok e
   found_side k (suc n) j e =
       step_found k n j (one_of (line (suc k)) s) refl (one_of (line (suc k)) a) refl (walk_from line s a (suc k) n) (found_side (suc k) n j) e
 
   -- and a side is found, where no allowed character is searched
-  pub side_found : Apart s a → (k n j : ℕ) → Side line s a k j → j ≤ k + n → walk_from line s a k n ≡ ok j
+  pub side_found : Apart s a → (k n j : ℕ) → Side line s a k j → j ≤ k + n → walk_from line s a k n ≡ Ok j
   unfolding walk_from
   side_found d k zero j f h = absurd (omega (arith, f.past))
   side_found d k (suc n) j f h =
       ⊎_elim
-      (λ u. let e : one_of (line (suc k)) s ≡ true = subst (λ (v : ℕ). one_of (line v) s ≡ true) (sym u) f.corner in rw e (ap ok u))
+      (λ u. let e : one_of (line (suc k)) s ≡ true = subst (λ (v : ℕ). one_of (line v) s ≡ true) (sym u) f.corner in rw e (ap Ok u))
       (λ u.
       let e : one_of (line (suc k)) a ≡ true = f.between (suc k) (omega arith) u in
       rw (d (line (suc k)) e, e)
@@ -102,7 +102,7 @@ module _ (line : ℕ → ℕ) (s a : List ℕ) where
       (eq-or-lt_of_le f.past)
 
 -- how far a walk goes
-pub found_bound : (line : ℕ → ℕ) (s a : List ℕ) (n j : ℕ) → walk_of line s a n ≡ ok j → (0 < j) × (j ≤ n)
+pub found_bound : (line : ℕ → ℕ) (s a : List ℕ) (n j : ℕ) → walk_of line s a n ≡ Ok j → (0 < j) × (j ≤ n)
 found_bound line s a n j e =
     let r = found_side line s a 0 n j e in
     (r.0.past, omega (arith, r.1))

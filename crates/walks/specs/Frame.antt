@@ -1,6 +1,6 @@
 -- Frames: by four walks, for the refusals, and by the characters on their sides, which is document 01's definition.
-use Rattle.std.specs.Prelude.{true, ◌&&◌, List, ◌≡◌, ℕ, ◌+◌, ◌-◌, ◌*◌, ◌≤◌, ◌<◌, eqb}
-use Rattle.lists.specs.Answer.{ok, refused, ◌>>=◌, ◌>>◌}
+use Rattle.std.specs.Prelude.{true, ◌&&◌, List, ◌≡◌, ℕ, ◌+◌, ◌-◌, ◌*◌, ◌≤◌, ◌<◌, eqb, Ok, Err}
+use Rattle.lists.specs.Answer.{◌>>=◌, ◌>>◌}
 use Rattle.lists.specs.Choose.{choose}
 use Rattle.lists.specs.OneOf.{one_of}
 use Rattle.lists.specs.Picture.{Picture}
@@ -9,8 +9,6 @@ use Rattle.model.specs.declared.Rect.{Rect}
 use Rattle.model.specs.declared.Refusal.TheVariants.{RectangleNotClosed}
 use Rattle.walks.specs.Walk.{go_of}
 use Rattle.walks.specs.declared.Direction.TheVariants.{Right, Down, Left, Up}
-use Rattle.walks.specs.declared.Framed.{Framed}
-use Rattle.walks.specs.declared.Framed.TheVariants.{Closed, NotFramed}
 
 -- the characters of a kind of frame: each corner's, and each side's
 pub record Kind : Type 0 where
@@ -29,7 +27,7 @@ rect_of x y bx by = record { left = x; top = y; right = bx + 1; bottom = by + 1 
 
 -- four walks ended in column cx of row cy: they are closed where they began (5)
 abbrev pub close_of : ℕ → ℕ → ℕ → ℕ → ℕ → ℕ → Reading Rect
-close_of x y cx cy bx by = choose (eqb cx x && eqb cy y) (ok (rect_of x y bx by)) (refused (RectangleNotClosed cx cy))
+close_of x y cx cy bx by = choose (eqb cx x && eqb cy y) (Ok (rect_of x y bx by)) (Err (RectangleNotClosed cx cy))
 
 -- a way to find the frame of a kind that starts in column x of row y, in a picture of w columns and h rows
 abbrev pub FrameFinder : Type 0
@@ -71,8 +69,3 @@ pub record Place (w h x y len : ℕ) : Type 0 where
   pub column : x < w
   pub row : y < h
   pub size : h * w ≤ len
-
--- an answer's rect
-abbrev pub framed_in : Framed → Reading Rect
-framed_in (Closed r) = ok r
-framed_in (NotFramed r) = refused r

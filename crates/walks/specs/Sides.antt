@@ -1,7 +1,5 @@
 -- A finder of frames by the characters on their sides, with no walk: document 01, "Regions and plane".
-use Rattle.std.specs.Prelude.{Bool, true, ◌&&◌, ℕ, zero, suc, ◌-◌, ltb}
-use Rattle.std.proofs.Math.Option.{Option, none, some}
-use Rattle.lists.specs.Answer.{ok, refused}
+use Rattle.std.specs.Prelude.{Bool, true, ◌&&◌, ℕ, zero, suc, ◌-◌, ltb, Option, None, Some, Ok, Err}
 use Rattle.lists.specs.Choose.{choose}
 use Rattle.lists.specs.OneOf.{one_of}
 use Rattle.lists.specs.Picture.{Picture}
@@ -33,21 +31,21 @@ module _ (K : Kind) (p : Picture) (x y bx by : ℕ) where
   drawn = (ltb x bx && ltb y by) && (corners && sides)
 
 abbrev pub or_else : {A : Type 0} → Option A → Option A → Option A
-or_else (some a) b = some a
-or_else none b = b
+or_else (Some a) b = Some a
+or_else None b = b
 
 -- the first of f k, f (k + 1), .., n of them
 unfoldable pub first_of : {A : Type 0} → (ℕ → Option A) → ℕ → ℕ → Option A
-first_of f k zero = none
+first_of f k zero = None
 first_of f k (suc n) = or_else (f k) (first_of f (suc k) n)
 
 -- the frame that starts in column x of row y: every bottom right corner is tried
 unfoldable pub frame_at : Kind → Picture → ℕ → ℕ → ℕ → ℕ → Option Rect
-frame_at K p w h x y = first_of (λ bx. first_of (λ by. choose (drawn K p x y bx by) (some (rect_of x y bx by)) none) 0 h) 0 w
+frame_at K p w h x y = first_of (λ bx. first_of (λ by. choose (drawn K p x y bx by) (Some (rect_of x y bx by)) None) 0 h) 0 w
 
 abbrev pub given : ℕ → ℕ → Option Rect → Reading Rect
-given x y (some r) = ok r
-given x y none = refused (RectangleNotClosed x y)
+given x y (Some r) = Ok r
+given x y None = Err (RectangleNotClosed x y)
 
 -- the finder; where no frame starts, what is drawn is not closed
 abbrev pub by_sides : FrameFinder

@@ -1,6 +1,5 @@
 -- A walk along a line of characters: `search_right` and its three sisters of the Rust.
-use Rattle.std.specs.Prelude.{List, ℕ, zero, suc, ◌+◌, ◌-◌, get_or}
-use Rattle.lists.specs.Answer.{ok, refused}
+use Rattle.std.specs.Prelude.{List, ℕ, zero, suc, ◌+◌, ◌-◌, get_or, Ok, Err}
 use Rattle.lists.specs.Choose.{choose}
 use Rattle.lists.specs.OneOf.{one_of}
 use Rattle.lists.specs.Picture.{Picture}
@@ -8,16 +7,14 @@ use Rattle.model.specs.Refusals.{Reading}
 use Rattle.model.specs.declared.Refusal.TheVariants.{CharactersNotFound, CharacterNotAllowed}
 use Rattle.walks.specs.declared.Direction.{Direction}
 use Rattle.walks.specs.declared.Direction.TheVariants.{Right, Down, Left, Up}
-use Rattle.walks.specs.declared.Walked.{Walked}
-use Rattle.walks.specs.declared.Walked.TheVariants.{Steps, Stopped}
 
 -- over the n characters after the kth: the steps to the first that is searched. A character that is neither searched nor allowed
 -- refuses (4), and so does the line's end (3, the first that was searched)
 unfoldable pub walk_from : (ℕ → ℕ) → List ℕ → List ℕ → ℕ → ℕ → Reading ℕ
-walk_from line s a k zero = refused (CharactersNotFound (get_or s 0 0))
+walk_from line s a k zero = Err (CharactersNotFound (get_or s 0 0))
 walk_from line s a k (suc n) =
-    choose (one_of (line (suc k)) s) (ok (suc k))
-    (choose (one_of (line (suc k)) a) (walk_from line s a (suc k) n) (refused (CharacterNotAllowed (line (suc k)))))
+    choose (one_of (line (suc k)) s) (Ok (suc k))
+    (choose (one_of (line (suc k)) a) (walk_from line s a (suc k) n) (Err (CharacterNotAllowed (line (suc k)))))
 
 abbrev pub walk_of : (ℕ → ℕ) → List ℕ → List ℕ → ℕ → Reading ℕ
 walk_of line s a n = walk_from line s a 0 n
@@ -39,8 +36,3 @@ ahead Up w h x y = y
 -- the walk from column x of row y, over allowed characters to a searched one
 abbrev pub go_of : Direction → Picture → ℕ → ℕ → ℕ → ℕ → List ℕ → List ℕ → Reading ℕ
 go_of d p w h x y searched allowed = walk_of (ray d p x y) searched allowed (ahead d w h x y)
-
--- an answer's steps
-abbrev pub steps_in : Walked → Reading ℕ
-steps_in (Steps k) = ok k
-steps_in (Stopped r) = refused r

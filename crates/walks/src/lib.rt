@@ -3,7 +3,7 @@
 
 ghost use Rattle.std.specs.Prelude.{◌≡◌, List, ℕ, ◌<◌, length};
 ghost use Rattle.lists.specs.Picture.{canvas};
-ghost use Rattle.walks.specs.Walk.{walk_of, ahead, go_of, steps_in};
+ghost use Rattle.walks.specs.Walk.{walk_of, ahead, go_of};
 ghost use Rattle.walks.specs.Frame.{Place};
 ghost use Rattle.walks.specs.Sets.{has_bit, holds, Sought};
 ghost use Rattle.walks.specs.Line.{back_of, step_of, line_of, Reach, next_of, NextFits};
@@ -16,20 +16,6 @@ pub enum Direction {
     Down,
     Left,
     Up,
-}
-
-// How a walk ends: after so many steps at a searched character, or refused.
-#[derive(Clone, Copy)]
-pub enum Walked {
-    Steps(usize),
-    Stopped(Refusal),
-}
-
-// What four walks around a frame find.
-#[derive(Clone, Copy)]
-pub enum Framed {
-    Closed(Rect),
-    NotFramed(Refusal),
 }
 
 // A set of box characters: bit k of `light` is for the character 0x2500 + k, bit k of `double` for 0x2540 + k.
@@ -94,28 +80,26 @@ fn walk_line(
     step: usize,
     count: usize,
     c: Characters,
-) -> Walked
+) -> Result<usize, Refusal>
     requires { Reach back at step count (length layer.now) }
-    ensures { (s a : List ℕ) → Sought c s a → steps_in result ≡ walk_of (line_of layer.now back at step) s a count }
+    ensures { (s a : List ℕ) → Sought c s a → result ≡ walk_of (line_of layer.now back at step) s a count }
 {
     let mut p = at;
-    let mut k = 0;
     let mut kept = c.line;
-    while k < count {
+    for k in 0..count {
         p = next(back, p, step);
-        k += 1;
         let code = layer[p];
         if code != kept {
             if holds(c.searched, code) {
-                return Walked::Steps(k);
+                return Ok(k + 1);
             }
             if !holds(c.allowed, code) {
-                return Walked::Stopped(Refusal::CharacterNotAllowed(code));
+                return Err(Refusal::CharacterNotAllowed(code));
             }
             kept = code;
         }
     }
-    Walked::Stopped(Refusal::CharactersNotFound(c.wanted))
+    Err(Refusal::CharactersNotFound(c.wanted))
 }
 
 // Whether a direction goes backwards through a layer.
@@ -164,9 +148,9 @@ pub fn go(
     x: usize,
     y: usize,
     c: Characters,
-) -> Walked
+) -> Result<usize, Refusal>
     requires { Place w h x y (length layer.now) }
-    ensures { (s a : List ℕ) → Sought c s a → steps_in result ≡ go_of d (canvas w h layer.now) w h x y s a }
+    ensures { (s a : List ℕ) → Sought c s a → result ≡ go_of d (canvas w h layer.now) w h x y s a }
 {
     walk_line(
         layer,

@@ -1,4 +1,5 @@
 -- A text in UTF-8 gets no longer by trimming.
+use Rattle.std.specs.Prelude.{Result, ℕ, Ok, Err}
 use mathlib.Core.Path.{◌≡◌, refl, ap}
 use mathlib.Core.Bool.{Bool, true, false}
 use mathlib.Core.List.{List, [], ◌∷◌}
@@ -9,8 +10,6 @@ use Rattle.lists.specs.Choose.{choose}
 use Rattle.white_space.specs.Trim.{trim_start, before, trim_end, trim, where_valid, trim_utf8}
 use Rattle.utf8.specs.Utf8.{checked, codes, encode, encodes}
 use Rattle.white_space.specs.White.{white}
-use Rattle.utf8.specs.declared.Checked.{Checked}
-use Rattle.utf8.specs.declared.Checked.TheVariants.{Valid, Invalid}
 use Rattle.utf8.proofs.Inverse.{encodes-codes}
 
 -- one code point more
@@ -44,6 +43,6 @@ pub trim-length : (s : List ℕ) → length (trim_utf8 s) ≤ length s
 unfolding trim_utf8 trim
 trim-length s = go (checked s) refl
   where
-    go : (k : Checked) → checked s ≡ k → length (where_valid k (encodes (trim (codes s))) s) ≤ length s
-    go Valid e = omega (arith, end_shorter (trim_start (codes s)), start_shorter (codes s), ap length (encodes-codes s e))
-    go (Invalid at) e = omega arith
+    go : (k : Result (Unit {0}) ℕ) → checked s ≡ k → length (where_valid k (encodes (trim (codes s))) s) ≤ length s
+    go (Ok tt) e = omega (arith, end_shorter (trim_start (codes s)), start_shorter (codes s), ap length (encodes-codes s e))
+    go (Err at) e = omega arith

@@ -1,4 +1,5 @@
 -- A text in UTF-8 trimmed by a scan of its bytes: what is left are the bytes of its trimmed code points.
+use Rattle.std.specs.Prelude.{Ok, Err}
 use mathlib.Core.Path.{◌≡◌, refl, sym, ap, ◌∙◌}
 use mathlib.Core.Bool.{true, false}
 use mathlib.Core.List.{List, [], ◌∷◌, ◌++◌, append-nil, append_assoc}
@@ -12,7 +13,6 @@ use Rattle.utf8.specs.Utf8.{decode, check, checked, codes, encode, encodes}
 use Rattle.white_space.specs.Trim.{trim_start, trim_end, trim, trim_start_utf8, trim_utf8, PartIn}
 use Rattle.white_space.specs.Leading.{Led}
 use Rattle.utf8.specs.declared.Decoded.TheVariants.{Char, IllFormed, End}
-use Rattle.utf8.specs.declared.Checked.TheVariants.{Valid, Invalid}
 use Rattle.utf8.proofs.Utf8Laws.{char_fits, check-at, codes_at_lem, codes_end, check_bad, check_end, decode-none}
 use Rattle.white_space.proofs.TrimLaws.{end_snoc}
 use Rattle.utf8.proofs.Inverse.{encode-decode, encodes-append}
@@ -71,7 +71,7 @@ trimming_start {s} {from} l =
     record { led = l; low = omega arith; mid = omega arith; inside = l.inside; done = []; passed = refl; bytes = rw z; kept = rw z; checks = l.checks }
 
 -- the whole text, where it is ill-formed
-pub trimming_bad : (s : List ℕ) (at : ℕ) → checked s ≡ Invalid at → PartIn s 0 (length s) (trim_start_utf8 s) (trim_utf8 s) 0 (length s)
+pub trimming_bad : (s : List ℕ) (at : ℕ) → checked s ≡ Err at → PartIn s 0 (length s) (trim_start_utf8 s) (trim_utf8 s) 0 (length s)
 unfolding trim_utf8 trim_start_utf8
 trimming_bad s at e = record { low = omega arith; ordered = omega arith; high = omega arith; start = rw e (omega arith); text = part_end s 0 ∙ rw e }
 
@@ -85,7 +85,7 @@ module _ {s : List ℕ} {from p to : ℕ} (i : Trimming s from p to) where
   pub trimming_end : length s ≤ p → PartIn s 0 (length s) (trim_start_utf8 s) (trim_utf8 s) from to
   unfolding trim_utf8 trim_start_utf8 trim
   trimming_end h =
-      let v : checked s ≡ Valid = i.checks ∙ check_end s p h in
+      let v : checked s ≡ (Ok tt) = i.checks ∙ check_end s p h in
       let r : codes (drop from s) ≡ i.done = i.passed ∙ ap (λ (x : List ℕ). i.done ++ x) (codes_end s p h) ∙ append-nil i.done in
       let t : trim_end (trim_start (codes s)) ≡ trim_end i.done = ap trim_end (i.led.same ∙ r) in
       let a = i.mid in

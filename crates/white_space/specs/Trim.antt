@@ -1,10 +1,8 @@
 -- Text without the white space at its ends.
-use Rattle.std.specs.Prelude.{List, [], ◌∷◌, ◌≡◌, ℕ, ◌+◌, ◌-◌, ◌≤◌, length, take, drop}
+use Rattle.std.specs.Prelude.{List, [], ◌∷◌, ◌≡◌, ℕ, ◌+◌, ◌-◌, ◌≤◌, length, take, drop, Result, Ok, Err}
 use Rattle.lists.specs.Choose.{choose}
 use Rattle.utf8.specs.Utf8.{checked, codes, encodes}
 use Rattle.white_space.specs.White.{white}
-use Rattle.utf8.specs.declared.Checked.{Checked}
-use Rattle.utf8.specs.declared.Checked.TheVariants.{Valid, Invalid}
 
 unfoldable pub trim_start : List ℕ → List ℕ
 trim_start [] = []
@@ -24,9 +22,9 @@ unfoldable pub trim : List ℕ → List ℕ
 trim s = trim_end (trim_start s)
 
 -- the bytes s, or x where they are well-formed
-abbrev pub where_valid : Checked → List ℕ → List ℕ → List ℕ
-where_valid Valid x s = x
-where_valid (Invalid at) x s = s
+abbrev pub where_valid : Result (Unit {0}) ℕ → List ℕ → List ℕ → List ℕ
+where_valid (Ok tt) x s = x
+where_valid (Err at) x s = s
 
 -- a text in UTF-8 without the white space in front, and at both ends: its code points trimmed. What is ill-formed stays as it is
 unfoldable pub trim_start_utf8 : List ℕ → List ℕ

@@ -70,15 +70,12 @@ pub struct Part {
 fn codes_start(s: &[u32]) -> usize
     ensures { (result ≤ length s.now) × (drop result s.now ≡ trim_start s.now) }
 {
-    let mut i = 0;
-    while i < s.len() {
-        if white_code(s[i]) {
-            i += 1;
-        } else {
+    for i in 0..s.len() {
+        if !white_code(s[i]) {
             return i;
         }
     }
-    i
+    s.len()
 }
 
 // Where the code points from `from` on end, without the white space behind them.
@@ -87,6 +84,7 @@ fn codes_end(s: &[u32], from: usize) -> usize
     ensures { PartIn s.now from (length s.now) (drop from s.now) (trim_end (drop from s.now)) from result }
 {
     let mut to = s.len();
+    // No `for`: it counts down, and a reversed range is no plainer.
     while from < to {
         if white_code(s[to - 1]) {
             to -= 1;
@@ -123,6 +121,7 @@ fn utf8_start(s: &[u8]) -> usize
     ensures { Led s.now result }
 {
     let mut p = 0;
+    // No `for`: each turn goes on by the bytes of a code point.
     while p < s.len() {
         let d = utf8::next(s, p);
         match d {
@@ -151,6 +150,7 @@ fn trim_utf8(s: &[u8]) -> Part
     let from = utf8_start(s);
     let mut p = from;
     let mut to = from;
+    // No `for`: each turn goes on by the bytes of a code point.
     while p < s.len() {
         let d = utf8::next(s, p);
         match d {

@@ -1,7 +1,7 @@
 -- Writing a table's slots: the text of a slot, what is left of the slots, and the record as a whole.
+use Rattle.std.specs.Prelude.{Ok, Err, None, Some}
 use mathlib.Core.Path.{◌≡◌, refl, sym, ap, ◌∙◌}
 use mathlib.Core.List.{List, [], ◌∷◌, ◌++◌}
-use mathlib.Core.Option.{none, some}
 use Prim.Native.Nat.{ℕ, zero, suc, ◌+◌, ◌-◌, ◌*◌, ◌^◌, ◌≤◌, ◌<◌}
 use native.Mathlib.Omega.{arith}
 use lib.ListN.{length, get_or, take, drop, length-append, length-take, length-drop}
@@ -16,7 +16,6 @@ use Rattle.record.specs.Policy.{Text}
 use Rattle.record.specs.Record.{Table, word, bytes_of, packed, slot_offset, text_offset, slots_in, total, encode}
 use Rattle.record.specs.Slots.{kind_at, offset_at, length_at, part_at}
 use Rattle.record.specs.Written.{begun_of, headed, with_texts}
-use Rattle.record.specs.declared.Begun.TheVariants.{Record, NotWritten}
 use Rattle.record.specs.declared.Head.{Head}
 use Rattle.record.proofs.RecordTellsPolicy.{length-encode}
 use Rattle.record.proofs.Texts.{length-packed}
@@ -42,11 +41,11 @@ module _ (bytes d : List ℕ) (i : ℕ) where
       go (suc zero) l = refl
       go (suc (suc k)) l = absurd (omega arith)
 
-  slot_values : 1 < kind_at d i → slot_text bytes d i ≡ some (values_of (part_at bytes d i)).allowed
+  slot_values : 1 < kind_at d i → slot_text bytes d i ≡ Some (values_of (part_at bytes d i)).allowed
   unfolding slot_text
   slot_values h = go (kind_at d i) h
     where
-      go : (k : ℕ) → 1 < k → text_of_kind k (part_at bytes d i) ≡ some (values_of (part_at bytes d i)).allowed
+      go : (k : ℕ) → 1 < k → text_of_kind k (part_at bytes d i) ≡ Some (values_of (part_at bytes d i)).allowed
       go zero l = absurd (omega arith)
       go (suc zero) l = absurd (omega arith)
       go (suc (suc k)) l = refl
@@ -66,7 +65,7 @@ module _ (bytes d : List ℕ) (i : ℕ) where
 
 -- a slot whose text is the allowed values of its part t
 module _ (bytes d : List ℕ) (i : ℕ) (k : 1 < kind_at d i) (t : List ℕ) (et : t ≡ part_at bytes d i) where
-  values-text : slot_text bytes d i ≡ some (values_of t).allowed
+  values-text : slot_text bytes d i ≡ Some (values_of t).allowed
   values-text = slot_values bytes d i k ∙ rw et
 
   -- what writing them asks, and what it leaves
@@ -195,9 +194,9 @@ module _ {h : Head} {bytes d : List ℕ} {c used : ℕ} (s : SlotsHeld h bytes d
   pub record_small : text_offset c + used < 2 ^ 32
   record_small =
       let t : Table = table_from h bytes d c in
-      let short : (i : ℕ) → i < length t.texts → length (bytes_of (get_or t.texts i none)) ≤ 61440 =
+      let short : (i : ℕ) → i < length t.texts → length (bytes_of (get_or t.texts i None)) ≤ 61440 =
       λ i l.
-      let e : get_or t.texts i none ≡ slot_text bytes d i = get_or-build c (slot_text bytes d) i none (omega (arith, length_run (slot_text bytes d) 0 c)) in
+      let e : get_or t.texts i None ≡ slot_text bytes d i = get_or-build c (slot_text bytes d) i None (omega (arith, length_run (slot_text bytes d) 0 c)) in
       omega (arith, ap (λ (x : Text). length (bytes_of x)) e, slot_short bytes d i, s.short) in
       omega (arith, total-is, total-fits t (omega (arith, s.counted, s.few)) counted short)
 
@@ -210,13 +209,13 @@ module _ {h : Head} {bytes d : List ℕ} {c used : ℕ} (s : SlotsHeld h bytes d
       let m = record_small in
       record { along = omega arith; behind = omega arith; room = omega arith; small = omega arith }
 
-  pub record_room : (x : List ℕ) (k : ℕ) → Record k ≡ begun_of (length x) (text_offset c + used) → text_offset c + used ≤ length x
+  pub record_room : (x : List ℕ) (k : ℕ) → Ok k ≡ begun_of (length x) (text_offset c + used) → text_offset c + used ≤ length x
   record_room x k e = (begun_whole (length x) (text_offset c + used) k (sym e)).0
 
   -- the slice x has become x' when the record was begun: x is too short, or the texts are written and make y of it
   module _ (x x' : List ℕ) (ex : x' ≡ headed x (text_offset c + used) (ten_words h c used)) where
-    pub record_short : (r : Refusal) → NotWritten r ≡ begun_of (length x) (text_offset c + used)
-        → (NotWritten r ≡ begun_of (length x) (total (table_from h bytes d c))) × (x' ≡ record_in x (table_from h bytes d c))
+    pub record_short : (r : Refusal) → Err r ≡ begun_of (length x) (text_offset c + used)
+        → (Err r ≡ begun_of (length x) (total (table_from h bytes d c))) × (x' ≡ record_in x (table_from h bytes d c))
     record_short r e =
         let b = begun_short (length x) (text_offset c + used) r (sym e) in
         let l : length x < total (table_from h bytes d c) = omega (arith, total-is, b.0) in (
@@ -224,8 +223,8 @@ module _ {h : Head} {bytes d : List ℕ} {c used : ℕ} (s : SlotsHeld h bytes d
           ex ∙ headed-short x (text_offset c + used) (ten_words h c used) b.0 ∙ rw (lt-ltb (length x) (total (table_from h bytes d c)) l),
         )
 
-    pub record_whole : (k : ℕ) (y : List ℕ) → Record k ≡ begun_of (length x) (text_offset c + used) → y ≡ with_texts x' 0 (text_offset c) (texts_from bytes d 0 c)
-        → (Record k ≡ begun_of (length x) (total (table_from h bytes d c))) × (y ≡ record_in x (table_from h bytes d c))
+    pub record_whole : (k : ℕ) (y : List ℕ) → Ok k ≡ begun_of (length x) (text_offset c + used) → y ≡ with_texts x' 0 (text_offset c) (texts_from bytes d 0 c)
+        → (Ok k ≡ begun_of (length x) (total (table_from h bytes d c))) × (y ≡ record_in x (table_from h bytes d c))
     record_whole k y e ey =
         let t : Table = table_from h bytes d c in
         let n : text_offset c ≡ text_offset (slots_in t) = ap text_offset s.counted in

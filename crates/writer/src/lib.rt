@@ -10,10 +10,11 @@ ghost use Rattle.writer.specs.PartsHeld.{PartsHeld};
 ghost use Rattle.writer.specs.SlotTexts.{slot_text, texts_from};
 ghost use Rattle.writer.specs.SlotRecord.{table_from, record_in, SlotsHeld};
 
-use record::{Begun, Head};
+use model::Refusal;
+use record::Head;
 use record_texts::Reached;
 
-// The kind of a slot whose text is the allowed values of a part.
+// The kind of a slot whose text is the allowed values of a part: a number, as its kinds in `record` are.
 pub const VALUES: u32 = 2;
 
 // The part of the bytes that a slot names.
@@ -47,6 +48,7 @@ fn write_slots(bytes: &[u8], slots: &[u32], c: usize, out: &mut [u8])
 {
     let mut slot: usize = 0;
     let mut offset = 40 + 8 * c;
+    // No `for`: each turn goes on behind the slots that were written together.
     while slot < c {
         let r = record_texts::put_parts(out, slots, c, bytes, Reached { slot, offset });
         let next = r.slot;
@@ -66,16 +68,12 @@ pub fn write_record(
     used: usize,
     h: Head,
     out: &mut [u8],
-) -> Begun
+) -> Result<usize, Refusal>
     requires { SlotsHeld h bytes.now slots.now c used }
     ensures answer { result ≡ begun_of (length out.old) (total (table_from h bytes.now slots.now c)) }
     ensures written { out.new ≡ record_in out.old (table_from h bytes.now slots.now c) }
 {
-    match record::begin_record(out, h, c, used) {
-        Begun::Record(total) => {
-            write_slots(bytes, slots, c, out);
-            Begun::Record(total)
-        }
-        Begun::NotWritten(r) => Begun::NotWritten(r),
-    }
+    let total = record::begin_record(out, h, c, used)?;
+    write_slots(bytes, slots, c, out);
+    Ok(total)
 }

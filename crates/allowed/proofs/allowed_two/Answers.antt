@@ -1,20 +1,22 @@
 -- `allowed::allowed_two` meets its contract.
+use Rattle.std.proofs.lemmas.Result.{err_from_is_err_and}
 use Rattle.allowed.proofs.AllowedLaws.{two_inputs, two_outputs, two_apart_lem, two_told}
 use Rattle.allowed.proofs.allowed_two.Goals as goal
 
-pub returns-in-NotTold : goal.returns-in-NotTold
-returns-in-NotTold c = two_inputs _ _ _ (rw c.in-NotTold.is at c.columns_are.ensures)
+pub returns-in_err-inputs : goal.returns-in_err-inputs
+returns-in_err-inputs c =
+    let p = err_from_is_err_and c.from_residual.result c.from_residual.ensures.1 in
+    rw (p.1, p.2) (two_inputs _ _ _ c.in_err-inputs.ensures)
 
-pub returns-in-NotTold-columns_are : goal.returns-in-NotTold-columns_are
-returns-in-NotTold-columns_are c =
-    two_outputs _ _ _ (rw c.in-Is.is at c.columns_are.ensures) (rw c.in-NotTold-columns_are.is at c.columns_are-2.ensures)
+pub returns-in_err-outputs : goal.returns-in_err-outputs
+returns-in_err-outputs c =
+    let p = err_from_is_err_and c.from_residual-in_err-outputs.result c.from_residual-in_err-outputs.ensures.1 in
+    rw (p.1, p.2) (two_outputs _ _ _ c.in_ok-inputs.ensures c.in_err-outputs.ensures)
 
-pub returns-in-NotTold-two_apart : goal.returns-in-NotTold-two_apart
-returns-in-NotTold-two_apart c =
-    two_apart_lem _ _ _ (rw c.in-Is.is at c.columns_are.ensures) (rw c.in-Is-columns_are.is at c.columns_are-2.ensures)
-    (rw c.in-NotTold-two_apart.is at c.two_apart.ensures)
+pub returns-in_err-apart : goal.returns-in_err-apart
+returns-in_err-apart c =
+    let p = err_from_is_err_and c.from_residual-in_err-apart.result c.from_residual-in_err-apart.ensures.1 in
+    rw (p.1, p.2) (two_apart_lem _ _ _ c.in_ok-inputs.ensures c.in_ok-outputs.ensures c.in_err-apart.ensures)
 
 pub returns : goal.returns
-returns c =
-    two_told _ _ _ (rw c.in-Is.is at c.columns_are.ensures) (rw c.in-Is-columns_are.is at c.columns_are-2.ensures)
-    (rw c.in-Is-two_apart.is at c.two_apart.ensures) c.allowed_by.ensures
+returns c = two_told _ _ _ c.in_ok-inputs.ensures c.in_ok-outputs.ensures c.in_ok-apart.ensures c.allowed_by.ensures

@@ -1,5 +1,5 @@
 -- `allowed::is_among` meets its contract.
-use Prim.Native.Nat.{◌+◌, ◌-◌, ◌*◌}
+use Prim.Native.Nat.{◌+◌, ◌*◌}
 use Rattle.allowed.proofs.MetLaws.{look_start, look_found, look_on, look_end}
 use native.Mathlib.Omega.{arith}
 use Rattle.allowed.proofs.is_among.Goals as goal

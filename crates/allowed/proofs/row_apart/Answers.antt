@@ -1,5 +1,5 @@
 -- `allowed::row_apart` meets its contract.
-use Prim.Native.Nat.{◌-◌}
+use Rattle.std.proofs.lemmas.Result.{err_from_is_err_and}
 use Rattle.allowed.proofs.MetLaws.{region_number_lem, meet_start, meet_out, meet_twice, meet_next, meet_end}
 use Rattle.allowed.proofs.row_apart.Goals as goal
 
@@ -12,16 +12,16 @@ is_met-requires c =
 
 pub returns-then-is_met : goal.returns-then-is_met
 returns-then-is_met c =
-    meet_twice c.loop-i.invariant c.loop-i-test.true (rw c.in-Number.is at c.region_at.ensures) c.is_met.ensures c.if-is_met.true
+    meet_twice c.loop-i.invariant c.loop-i-test.true c.in_ok-a.ensures c.is_met.ensures c.if-is_met.true
 
-pub returns-in-NotRead : goal.returns-in-NotRead
-returns-in-NotRead c =
-    meet_out c.loop-i.invariant c.loop-i-test.true (rw c.in-NotRead.is at c.region_at.ensures)
+pub returns-in_err-a : goal.returns-in_err-a
+returns-in_err-a c =
+    let p = err_from_is_err_and c.from_residual.result c.from_residual.ensures.1 in
+    rw (p.1, p.2) (meet_out c.loop-i.invariant c.loop-i-test.true c.in_err-a.ensures)
 
 pub loop-i-preserved : goal.loop-i-preserved
 loop-i-preserved c =
-    let e = rw c.in-Number.is at c.region_at.ensures in
-    meet_next c.loop-i.invariant c.loop-i-test.true e c.is_met.ensures c.if-is_met.false (region_number_lem _ _ _ _ _ e)
+    meet_next c.loop-i.invariant c.loop-i-test.true c.in_ok-a.ensures c.is_met.ensures c.if-is_met.false (region_number_lem _ _ _ _ _ c.in_ok-a.ensures)
 
 pub returns : goal.returns
 returns c = meet_end c.loop-i.invariant c.loop-i-test.false

@@ -6,6 +6,3 @@ use Rattle.allowed.proofs.row_apart.Given as goal
 
 abbrev pub invariant-loop-i : goal.invariant-loop-i
 invariant-loop-i l = Meeting (plane_in l.plane l.rows) l.plane l.y l.x l.n (met_above l.above l.plane l.y l.x l.n) l.i
-
-abbrev pub decreases-loop-i : goal.decreases-loop-i
-decreases-loop-i l = l.n - l.i

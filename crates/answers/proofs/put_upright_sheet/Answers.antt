@@ -15,10 +15,10 @@ pub slice_bounds-lent_sheet-end-3 : goal.slice_bounds-lent_sheet-end-3
 slice_bounds-lent_sheet-end-3 c = refl
 
 pub put_stated-requires : goal.put_stated-requires
-put_stated-requires c = (omega (arith, c.requires), stated_fits _ _ _ _ _ c.lent_sheet.ensures.held c.in-Upright.is)
+put_stated-requires c = (omega (arith, c.requires), stated_fits _ _ _ _ _ c.lent_sheet.ensures.held c.in-Ok.is)
 
-pub returns-in-Upright : goal.returns-in-Upright
-returns-in-Upright c = written_as c.put_stated.ensures (stated_lines _ _ _ c.lent_sheet.ensures.sheet c.in-Upright.is)
+pub returns-in-Ok : goal.returns-in-Ok
+returns-in-Ok c = written_as c.put_stated.ensures (stated_lines _ _ _ c.lent_sheet.ensures.sheet c.in-Ok.is)
 
-pub returns-in-NotStated : goal.returns-in-NotStated
-returns-in-NotStated c = written_within (written_as c.put_refusal.ensures (not_stated _ _ _ c.lent_sheet.ensures.sheet c.in-NotStated.is)) (omega arith)
+pub returns-in-Err : goal.returns-in-Err
+returns-in-Err c = written_within (written_as c.put_refusal.ensures (not_stated _ _ _ c.lent_sheet.ensures.sheet c.in-Err.is)) (omega arith)

@@ -9,6 +9,3 @@ abbrev pub invariant-loop-k : goal.invariant-loop-k
 invariant-loop-k l =
     Turning (store_at (λ i. l.base + i) (λ i. body_code l.top l.y (get_or l.thins (l.base + i) 0))) l.n l.initial.bodies l.bodies l.k
     × Turning (store_at (λ i. l.base + i) (λ i. shaded_code l.top l.y)) l.n l.initial.grid l.grid l.k
-
-abbrev pub decreases-loop-k : goal.decreases-loop-k
-decreases-loop-k l = l.n - l.k

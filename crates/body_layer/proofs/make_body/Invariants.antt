@@ -9,6 +9,3 @@ abbrev pub invariant-loop-y : goal.invariant-loop-y
 invariant-loop-y l =
     Turning (row_turn (λ j p. body_code l.top j (get_or l.thins p 0)) l.width l.left l.n) l.bottom l.initial.bodies l.bodies l.y
     × Turning (row_turn (λ j p. shaded_code l.top j) l.width l.left l.n) l.bottom l.initial.grid l.grid l.y
-
-abbrev pub decreases-loop-y : goal.decreases-loop-y
-decreases-loop-y l = l.bottom - l.y

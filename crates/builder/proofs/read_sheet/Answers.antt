@@ -1,8 +1,8 @@
 -- `builder::read_sheet` meets its contract.
+use Rattle.std.proofs.lemmas.Result.{err_from_is_err_and}
 use mathlib.Core.List.{[], ◌∷◌}
 use mathlib.Core.Path.{sym, ap, ◌∙◌, refl}
 use Rattle.policies.specs.DrawnPolicy.{walked_policy}
-use Rattle.room.specs.Room.{room_in}
 use Rattle.builder.specs.SheetEnd.{sheet_sizes}
 use Rattle.ends.proofs.EndLaws.{end_short}
 use Rattle.builder.proofs.read_sheet.Goals as goal
@@ -15,7 +15,7 @@ slice_bounds-work_slices-end-2 c = refl
 
 pub sheet_cleared-requires : goal.sheet_cleared-requires
 sheet_cleared-requires c =
-    sym c.work_slices.ensures ∙ ap room_in c.in-Enough.is
+    sym c.work_slices.ensures ∙ c.in_ok-work_slices.was
 
 pub shape_of-text : goal.shape_of-text
 shape_of-text c = c.sheet_cleared.auto.text
@@ -38,10 +38,13 @@ shape_of-bytes c = c.sheet_cleared.auto.bytes
 pub shape_of-out : goal.shape_of-out
 shape_of-out c = c.sheet_cleared.auto.out
 
-pub returns-in-Enough : goal.returns-in-Enough
-returns-in-Enough c = c.sheet_cleared.ensures
+pub returns : goal.returns
+returns c = c.sheet_cleared.ensures
 
-pub returns-in-Short : goal.returns-in-Short
-returns-in-Short c =
-    let e = end_short sheet_sizes (walked_policy c.args.s.now) (c.args.text.now ∷ c.args.thins.now ∷ c.args.bodies.now ∷ c.args.grid.now ∷ c.args.spans.now ∷ c.args.bytes.now ∷ []) c.args.out.now _ (ap room_in (sym c.in-Short.is) ∙ c.work_slices.ensures) in
+pub returns-in_err-work_slices : goal.returns-in_err-work_slices
+returns-in_err-work_slices c =
+    let p = err_from_is_err_and c.from_residual.result c.from_residual.ensures.1 in
+    rw (p.1, p.2) (
+    let e = end_short sheet_sizes (walked_policy c.args.s.now) (c.args.text.now ∷ c.args.thins.now ∷ c.args.bodies.now ∷ c.args.grid.now ∷ c.args.spans.now ∷ c.args.bytes.now ∷ []) c.args.out.now _ ((sym c.in_err-work_slices.was) ∙ c.work_slices.ensures) in
     record { end = e }
+    )

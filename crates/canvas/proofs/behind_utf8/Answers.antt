@@ -1,8 +1,8 @@
 -- `canvas::behind_utf8` meets its contract.
 use Rattle.canvas.proofs.behind_utf8.Goals as goal
 
-pub returns-in-Valid : goal.returns-in-Valid
-returns-in-Valid c = rw c.in-Valid.is
+pub returns-in-Ok : goal.returns-in-Ok
+returns-in-Ok c = rw c.in-Ok.is
 
-pub returns-in-Invalid : goal.returns-in-Invalid
-returns-in-Invalid c = rw c.in-Invalid.is
+pub returns-in-Err : goal.returns-in-Err
+returns-in-Err c = rw c.in-Err.is

@@ -1,18 +1,20 @@
 -- `cell_tests::column_is` meets its contract.
+use Rattle.std.proofs.lemmas.Result.{err_from_is_err_and}
 use Rattle.cell_tests.proofs.TestLaws.{column_upper, column_lower, column-same, column_other}
 use Rattle.cell_tests.proofs.column_is.Goals as goal
 
-pub returns-in-NotRead : goal.returns-in-NotRead
-returns-in-NotRead c = column_upper _ _ _ _ (rw c.in-NotRead.is at c.region_at.ensures)
+pub returns-in_err-a : goal.returns-in_err-a
+returns-in_err-a c =
+    let p = err_from_is_err_and c.from_residual.result c.from_residual.ensures.1 in
+    rw (p.1, p.2) (column_upper _ _ _ _ c.in_err-a.ensures)
 
-pub returns-in-NotRead-region_at : goal.returns-in-NotRead-region_at
-returns-in-NotRead-region_at c =
-    column_lower _ _ _ _ (rw c.in-Number.is at c.region_at.ensures) (rw c.in-NotRead-region_at.is at c.region_at-2.ensures)
+pub returns-in_err-b : goal.returns-in_err-b
+returns-in_err-b c =
+    let p = err_from_is_err_and c.from_residual-in_err-b.result c.from_residual-in_err-b.ensures.1 in
+    rw (p.1, p.2) (column_lower _ _ _ _ c.in_ok-a.ensures c.in_err-b.ensures)
 
 pub returns-then-a-b : goal.returns-then-a-b
-returns-then-a-b c =
-    column-same _ _ _ _ (rw c.in-Number.is at c.region_at.ensures) (rw c.in-Number-region_at.is at c.region_at-2.ensures) c.if-a-b.true
+returns-then-a-b c = column-same _ _ _ _ c.in_ok-a.ensures c.in_ok-b.ensures c.if-a-b.true
 
 pub returns : goal.returns
-returns c =
-    column_other _ _ _ _ (rw c.in-Number.is at c.region_at.ensures) (rw c.in-Number-region_at.is at c.region_at-2.ensures) c.if-a-b.false
+returns c = column_other _ _ _ _ c.in_ok-a.ensures c.in_ok-b.ensures c.if-a-b.false

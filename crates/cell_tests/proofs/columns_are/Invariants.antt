@@ -1,4 +1,3 @@
-use Prim.Native.Nat.{◌-◌}
 use Rattle.cells.specs.Plane.{plane_in}
 use Rattle.cell_tests.specs.SheetCells.{column_is}
 use Rattle.cell_tests.proofs.TestLaws.{Every}
@@ -6,6 +5,3 @@ use Rattle.cell_tests.proofs.columns_are.Given as goal
 
 abbrev pub invariant-loop-i : goal.invariant-loop-i
 invariant-loop-i l = Every (column_is l.joined (plane_in l.plane l.rows) l.top) l.x l.n l.i
-
-abbrev pub decreases-loop-i : goal.decreases-loop-i
-decreases-loop-i l = l.n - l.i

@@ -1,6 +1,6 @@
 -- `cell_tests::region_at` meets its contract.
+use Rattle.std.specs.Prelude.{None, Some}
 use mathlib.Core.Path.{sym}
-use mathlib.Core.Option.{none, some}
 use native.Mathlib.Omega.{arith}
 use Rattle.cell_tests.proofs.CellLaws.{region_below, region-right, region-by}
 use Rattle.cell_tests.proofs.region_at.Goals as goal
@@ -19,12 +19,12 @@ cell_at-requires c =
     let f = c.requires in
     (omega (arith, c.if-rows-y.false, f.rows), omega (arith, c.if-plane-y.false, f.cells c.args.y c.if-rows-y.false), f.room)
 
-pub returns-in-Number : goal.returns-in-Number
-returns-in-Number c =
-    region-by _ _ _ _ (some _) c.if-rows-y.false c.if-plane-y.false
-    (rw (← c.cell_at.ensures.cell) (sym (rw c.in-Number.is at c.region_of.ensures)))
+pub returns-in-Some : goal.returns-in-Some
+returns-in-Some c =
+    region-by _ _ _ _ (Some _) c.if-rows-y.false c.if-plane-y.false
+    (rw (← c.cell_at.ensures.cell) (sym (rw c.in-Some.is at c.region.ensures)))
 
-pub returns-in-NoRegion : goal.returns-in-NoRegion
-returns-in-NoRegion c =
-    region-by _ _ _ _ none c.if-rows-y.false c.if-plane-y.false
-    (rw (← c.cell_at.ensures.cell) (sym (rw c.in-NoRegion.is at c.region_of.ensures)))
+pub returns-in-None : goal.returns-in-None
+returns-in-None c =
+    region-by _ _ _ _ None c.if-rows-y.false c.if-plane-y.false
+    (rw (← c.cell_at.ensures.cell) (sym (rw c.in-None.is at c.region.ensures)))

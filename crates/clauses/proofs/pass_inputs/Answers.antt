@@ -1,22 +1,25 @@
 -- `clauses::pass_inputs` meets its contract.
 use mathlib.Core.Path.{◌∙◌}
+use Rattle.std.proofs.lemmas.Result.{err_from_is_err_and}
 use Rattle.layouts.proofs.LayoutLaws.{read_if, read_not}
 use Rattle.clauses.proofs.ShapeLaws.{inputs_stop, inputs-values, inputs-rows}
 use Rattle.clauses.proofs.pass_inputs.Goals as goal
-use Rattle.clauses.proofs.pass_inputs.Goals.{then-values+in-Clear-pass_row, else-values}
+use Rattle.clauses.proofs.pass_inputs.Goals.{then-values+in_ok-pass_row-2, else-values}
 
-pub returns-in-Stopped : goal.returns-in-Stopped
-returns-in-Stopped c = inputs_stop _ _ _ _ (rw c.in-Stopped.is at c.pass_row.ensures)
+pub returns-in_err-pass_row : goal.returns-in_err-pass_row
+returns-in_err-pass_row c =
+    let p = err_from_is_err_and c.from_residual.result c.from_residual.ensures.1 in
+    rw (p.1, p.2) (inputs_stop _ _ _ _ c.in_err-pass_row.ensures)
 
-pub returns-in-Stopped-pass_row : goal.returns-in-Stopped-pass_row
-returns-in-Stopped-pass_row c =
-    inputs-values _ _ _ _ (rw c.in-Clear.is at c.pass_row.ensures)
-    (read_if _ c.if-values.true (rw c.in-Stopped-pass_row.is at c.pass_row-then-values.ensures))
+pub returns-in_err-pass_row-2 : goal.returns-in_err-pass_row-2
+returns-in_err-pass_row-2 c =
+    let p = err_from_is_err_and c.from_residual-in_err-pass_row-2.result c.from_residual-in_err-pass_row-2.ensures.1 in
+    rw (p.1, p.2) (inputs-values _ _ _ _ c.in_ok-pass_row.ensures (read_if _ c.if-values.true c.in_err-pass_row-2.ensures))
 
 pub returns : goal.returns
 returns c =
-    c.pass_rows.ensures ∙ inputs-rows _ _ _ _ (rw c.in-Clear.is at c.pass_row.ensures)
+    c.pass_rows.ensures ∙ inputs-rows _ _ _ _ c.in_ok-pass_row.ensures
     (elim c.if-values.branch [
-      | then-values+in-Clear-pass_row w ↦ read_if _ w.if-values.true (rw w.in-Clear-pass_row.is at w.pass_row-then-values.ensures)
+      | then-values+in_ok-pass_row-2 w ↦ read_if _ w.if-values.true w.in_ok-pass_row-2.ensures
       | else-values w ↦ read_not _ w.if-values.false
     ])

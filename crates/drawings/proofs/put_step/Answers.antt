@@ -17,10 +17,10 @@ make_plane-requires c =
     (step_room p.1 p.2 p.3 (omega arith), omega arith)
 
 pub put_plane-requires : goal.put_plane-requires
-put_plane-requires c = (omega (arith, c.requires.0), made_fits _ _ c.make_plane.ensures.fits c.in-Made.is)
+put_plane-requires c = (omega (arith, c.requires.0), made_fits _ _ c.make_plane.ensures.fits c.in-Ok.is)
 
-pub returns-in-Made : goal.returns-in-Made
-returns-in-Made c = written_as c.put_plane.ensures (made_lines _ _ _ c.make_plane.ensures.made c.in-Made.is)
+pub returns-in-Ok : goal.returns-in-Ok
+returns-in-Ok c = written_as c.put_plane.ensures (made_lines _ _ _ c.make_plane.ensures.made c.in-Ok.is)
 
-pub returns-in-NotMade : goal.returns-in-NotMade
-returns-in-NotMade c = written_within (written_as c.put_refusal.ensures (not_made _ _ _ c.make_plane.ensures.made c.in-NotMade.is)) (omega arith)
+pub returns-in-Err : goal.returns-in-Err
+returns-in-Err c = written_within (written_as c.put_refusal.ensures (not_made _ _ _ c.make_plane.ensures.made c.in-Err.is)) (omega arith)

@@ -1,5 +1,4 @@
 -- `emphasis::first_marked` meets its contract.
-use Prim.Native.Nat.{◌-◌}
 use native.Mathlib.Omega.{arith}
 use Rattle.emphasis.proofs.Finding.{finding_start, finding_fits, finding_hit, finding_last, finding_more}
 use Rattle.emphasis.proofs.first_marked.Goals as goal
@@ -9,23 +8,24 @@ loop-at-init c = finding_start
 
 pub overflow_add-result : goal.overflow_add-result
 overflow_add-result c =
-    omega (arith, finding_fits c.loop-at.invariant c.part_end-end.ensures c.trim_utf8_part-t.ensures c.mark_of-m.ensures, c.mark_of-m.ensures.ordered)
+    let b = c.in-Some.ensures in
+    omega (arith, finding_fits c.loop-at.invariant c.part_end-end.ensures c.trim_utf8_part-t.ensures b, b.ordered)
 
-pub overflow_add-result-then-m : goal.overflow_add-result-then-m
-overflow_add-result-then-m c =
-    omega (arith, finding_fits c.loop-at.invariant c.part_end-end.ensures c.trim_utf8_part-t.ensures c.mark_of-m.ensures)
+pub overflow_add-result-in-Some : goal.overflow_add-result-in-Some
+overflow_add-result-in-Some c =
+    omega (arith, finding_fits c.loop-at.invariant c.part_end-end.ensures c.trim_utf8_part-t.ensures c.in-Some.ensures)
 
-pub returns-then-m : goal.returns-then-m
-returns-then-m c =
-    finding_hit c.loop-at.invariant c.part_end-end.ensures c.trim_utf8_part-t.ensures c.mark_of-m.ensures c.if-m.true
+pub returns-in-Some : goal.returns-in-Some
+returns-in-Some c =
+    finding_hit c.loop-at.invariant c.part_end-end.ensures c.trim_utf8_part-t.ensures c.in-Some.ensures
 
 pub returns-then-end-s : goal.returns-then-end-s
 returns-then-end-s c =
-    finding_last c.loop-at.invariant c.part_end-end.ensures c.trim_utf8_part-t.ensures c.mark_of-m.ensures c.if-m.false c.if-end-s.true
+    finding_last c.loop-at.invariant c.part_end-end.ensures c.trim_utf8_part-t.ensures c.in_default.ensures c.if-end-s.true
 
 pub loop-at-preserved : goal.loop-at-preserved
 loop-at-preserved c =
-    finding_more c.loop-at.invariant c.part_end-end.ensures c.trim_utf8_part-t.ensures c.mark_of-m.ensures c.if-m.false c.if-end-s.false
+    finding_more c.loop-at.invariant c.part_end-end.ensures c.trim_utf8_part-t.ensures c.in_default.ensures c.if-end-s.false
 
 pub returns : goal.returns
 returns c = absurd (omega arith)

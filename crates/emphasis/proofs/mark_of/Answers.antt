@@ -1,8 +1,7 @@
 -- `emphasis::mark_of` meets its contract.
-use mathlib.Core.Path.{◌≡◌, ◌∙◌, refl}
+use mathlib.Core.Path.{◌≡◌, ◌∙◌}
 use Prim.Native.Nat.{ℕ}
 use mathlib.Core.List.{List}
-use native.Mathlib.Omega.{arith}
 use lib.ListN.{drop}
 use Rattle.emphasis.specs.Emphasis.{marks, emphasised}
 use Rattle.emphasis.proofs.Finding.{mark-hit, mark_miss, mark-none, mark-by}
@@ -44,4 +43,4 @@ pub returns-then-is_marked-5 : goal.returns-then-is_marked-5
 returns-then-is_marked-5 c = mark-by (left4 (goal.at.returns-then-is_marked-5 c).Else-is_marked-4 (left3 (goal.at.returns-then-is_marked-5 c).Else-is_marked-3 (left2 (goal.at.returns-then-is_marked-5 c).Else-is_marked-2 (left1 (goal.at.returns-then-is_marked-5 c).Else-is_marked))) ∙ mark-hit _ _ _ c.is_marked-5.ensures c.if-is_marked-5.true) c.bare-then-is_marked-5.ensures
 
 pub returns : goal.returns
-returns c = record { choice = left5 c (left4 (goal.at.returns c).Else-is_marked-4 (left3 (goal.at.returns c).Else-is_marked-3 (left2 (goal.at.returns c).Else-is_marked-2 (left1 (goal.at.returns c).Else-is_marked)))) ∙ mark-none _; ordered = omega arith; inside = omega arith }
+returns c = left5 c (left4 (goal.at.returns c).Else-is_marked-4 (left3 (goal.at.returns c).Else-is_marked-3 (left2 (goal.at.returns c).Else-is_marked-2 (left1 (goal.at.returns c).Else-is_marked)))) ∙ mark-none _

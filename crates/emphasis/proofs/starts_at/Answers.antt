@@ -1,5 +1,4 @@
 -- `emphasis::starts_at` meets its contract.
-use Prim.Native.Nat.{◌-◌}
 use borrow.Author.Rules.{rules}
 use Rattle.emphasis.proofs.StartsWith.{comparing_start, comparing_end, comparing_short, comparing_other, comparing_more}
 use Rattle.emphasis.proofs.starts_at.Goals as goal

@@ -5,6 +5,3 @@ use Rattle.emphasis.proofs.starts_at.Given as goal
 
 abbrev pub invariant-loop-k : goal.invariant-loop-k
 invariant-loop-k l = Comparing l.s l.at l.p l.k
-
-abbrev pub decreases-loop-k : goal.decreases-loop-k
-decreases-loop-k l = length l.p - l.k

@@ -1,5 +1,4 @@
 -- `emphasis::strip_start` meets its contract.
-use Prim.Native.Nat.{◌-◌}
 use native.Mathlib.Omega.{arith}
 use Rattle.emphasis.proofs.Stripping.{leading_start, leading_end, leading_stop, leading_fits, leading_more}
 use Rattle.emphasis.proofs.strip_start.Goals as goal

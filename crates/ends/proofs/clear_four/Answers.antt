@@ -1,6 +1,8 @@
 -- `ends::clear_four` meets its contract.
+use Rattle.std.proofs.Common.{◌∙◌}
+use Rattle.lists.proofs.Filling.{filled-zeros}
 use Rattle.ends.proofs.clear_four.Goals as goal
 
 pub returns : goal.returns
 returns c =
-    (c.clear_u32.ensures, c.clear_u32-2.ensures, c.clear_u32-3.ensures, c.clear_u32-4.ensures)
+    (c.fill.ensures ∙ filled-zeros _, c.fill-2.ensures ∙ filled-zeros _, c.fill-3.ensures ∙ filled-zeros _, c.fill-4.ensures ∙ filled-zeros _)

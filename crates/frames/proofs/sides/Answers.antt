@@ -12,12 +12,18 @@ pub closed-requires : goal.closed-requires
 closed-requires c =
     let a = c.args in
     let p = canvas a.w a.h a.layer.now in
-    let right = stays a.lines p a.w a.h Right (point a.x a.y) _ _ _ c.search_right-right.ensures c.requires.0 in
-    let down = stays a.lines p a.w a.h Down (point a.x a.y) _ _ _ c.search_down-down.ensures c.requires.0 in
+    let r = c.search-right.ensures in
+    let d = c.search-down.ensures in
+    let right = stays a.lines p a.w a.h Right (point a.x a.y) _ _ _ (r.cursor, r.walked) c.requires.0 in
+    let down = stays a.lines p a.w a.h Down (point a.x a.y) _ _ _ (d.cursor, d.walked) c.requires.0 in
     (omega (arith, right.column, c.ranges.w.fits), omega (arith, down.row, c.ranges.h.fits))
 
 pub returns : goal.returns
 returns c =
     let a = c.args in
+    let u = c.search-up.ensures in
+    let d = c.search-down.ensures in
+    let l = c.search-left.ensures in
+    let r = c.search-right.ensures in
     c.closed.ensures
-    ∙ sides-found a.lines (canvas a.w a.h a.layer.now) a.w a.h a.x a.y c.requires.1 _ _ _ _ _ _ _ _ c.search_up-up.ensures c.search_down-down.ensures c.search_left-left.ensures c.search_right-right.ensures
+    ∙ sides-found a.lines (canvas a.w a.h a.layer.now) a.w a.h a.x a.y c.requires.1 _ _ _ _ _ _ _ _ (u.cursor, u.walked) (d.cursor, d.walked) (l.cursor, l.walked) (r.cursor, r.walked)

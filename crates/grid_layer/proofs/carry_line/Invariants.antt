@@ -6,6 +6,3 @@ use Rattle.grid_layer.proofs.carry_line.Given as goal
 
 abbrev pub invariant-loop-k : goal.invariant-loop-k
 invariant-loop-k l = Turning (store_at (λ i. l.base + i * l.stride) (carried_code l.d l.off l.n)) l.n l.initial.grid l.grid l.k
-
-abbrev pub decreases-loop-k : goal.decreases-loop-k
-decreases-loop-k l = l.n - l.k

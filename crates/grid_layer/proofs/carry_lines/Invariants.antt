@@ -6,6 +6,3 @@ use Rattle.grid_layer.proofs.carry_lines.Given as goal
 
 abbrev pub invariant-loop-j : goal.invariant-loop-j
 invariant-loop-j l = Turning (λ i. line_carried l.d l.off (placed l.base l.across l.stride i) l.n) l.m l.initial.grid l.grid l.j
-
-abbrev pub decreases-loop-j : goal.decreases-loop-j
-decreases-loop-j l = l.m - l.j

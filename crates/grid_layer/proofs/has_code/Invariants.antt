@@ -8,6 +8,3 @@ use Rattle.grid_layer.proofs.has_code.Given as goal
 
 abbrev pub invariant-loop-k : goal.invariant-loop-k
 invariant-loop-k l = (l.k ≤ l.n) × (any_at (λ j. eqb (get_or l.s (l.base + j * l.stride) 0) l.code) l.k ≡ false)
-
-abbrev pub decreases-loop-k : goal.decreases-loop-k
-decreases-loop-k l = l.n - l.k

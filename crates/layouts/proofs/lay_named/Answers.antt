@@ -1,20 +1,21 @@
 -- `layouts::lay_named` meets its contract.
+use Rattle.std.proofs.lemmas.Result.{err_from_is_err_and}
 use Rattle.layouts.proofs.LayoutLaws.{read_if, read_not, named_stop, named-values, named_as}
 use Rattle.layouts.proofs.lay_named.Goals as goal
 
-pub returns-in-Stopped : goal.returns-in-Stopped
-returns-in-Stopped c = named_stop _ _ _ _ (rw c.in-Stopped.is at c.pass_row.ensures)
+pub returns-in_err-pass_row : goal.returns-in_err-pass_row
+returns-in_err-pass_row c =
+    let p = err_from_is_err_and c.from_residual.result c.from_residual.ensures.1 in
+    rw (p.1, p.2) (named_stop _ _ _ _ c.in_err-pass_row.ensures)
 
-pub returns-in-Stopped-pass_row : goal.returns-in-Stopped-pass_row
-returns-in-Stopped-pass_row c =
-    named-values _ _ _ _ (rw c.in-Clear.is at c.pass_row.ensures)
-    (read_if _ c.if-valued.true (rw c.in-Stopped-pass_row.is at c.pass_row-then-valued.ensures))
+pub returns-in_err-pass_row-2 : goal.returns-in_err-pass_row-2
+returns-in_err-pass_row-2 c =
+    let p = err_from_is_err_and c.from_residual-in_err-pass_row-2.result c.from_residual-in_err-pass_row-2.ensures.1 in
+    rw (p.1, p.2) (named-values _ _ _ _ c.in_ok-pass_row.ensures (read_if _ c.if-valued.true c.in_err-pass_row-2.ensures))
 
-pub returns-in-Clear-pass_row : goal.returns-in-Clear-pass_row
-returns-in-Clear-pass_row c =
-    named_as _ _ _ _ (rw c.in-Clear.is at c.pass_row.ensures)
-    (read_if _ c.if-valued.true (rw c.in-Clear-pass_row.is at c.pass_row-then-valued.ensures))
+pub returns-in_ok-pass_row-2 : goal.returns-in_ok-pass_row-2
+returns-in_ok-pass_row-2 c =
+    named_as _ _ _ _ c.in_ok-pass_row.ensures (read_if _ c.if-valued.true c.in_ok-pass_row-2.ensures)
 
 pub returns-else-valued : goal.returns-else-valued
-returns-else-valued c =
-    named_as _ _ _ _ (rw c.in-Clear.is at c.pass_row.ensures) (read_not _ c.if-valued.false)
+returns-else-valued c = named_as _ _ _ _ c.in_ok-pass_row.ensures (read_not _ c.if-valued.false)

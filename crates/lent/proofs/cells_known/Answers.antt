@@ -1,7 +1,5 @@
 -- `lent::cells_known` meets its contract.
 use mathlib.Core.Path.{sym, ◌∙◌}
-use mathlib.Core.Bool.{true}
-use Prim.Native.Nat.{◌-◌}
 use Rattle.lent.proofs.KindLaws.{known_at}
 use Rattle.lent.proofs.AllAtLaws.{all_start, all_more, all-out, all_end}
 use native.Mathlib.Omega.{arith}

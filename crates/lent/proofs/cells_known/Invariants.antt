@@ -8,6 +8,3 @@ use Rattle.lent.proofs.cells_known.Given as goal
 
 abbrev pub invariant-loop-k : goal.invariant-loop-k
 invariant-loop-k l = (l.k ≤ length l.kinds) × (all_at (known_at l.count l.kinds l.regions) l.k ≡ true)
-
-abbrev pub decreases-loop-k : goal.decreases-loop-k
-decreases-loop-k l = length l.kinds - l.k

@@ -1,6 +1,6 @@
 -- `lent::load_row` meets its contract.
 use mathlib.Core.Path.{sym, subst}
-use Prim.Native.Nat.{◌+◌, ◌-◌}
+use Prim.Native.Nat.{◌+◌}
 use Rattle.model.specs.Cells.{Small}
 use Rattle.cells.proofs.FillLaws.{row-start, row_next, row_end}
 use Rattle.lent.proofs.KindLaws.{kind-small}

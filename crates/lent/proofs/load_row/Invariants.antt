@@ -5,6 +5,3 @@ use Rattle.lent.proofs.load_row.Given as goal
 
 abbrev pub invariant-loop-i : goal.invariant-loop-i
 invariant-loop-i l = (l.i ≤ l.n) × RowFilled (λ k. lent_cell l.kinds l.regions (l.at + k)) l.initial.plane l.plane l.row l.i
-
-abbrev pub decreases-loop-i : goal.decreases-loop-i
-decreases-loop-i l = l.n - l.i

@@ -1,6 +1,5 @@
 -- `lent::load_rows` meets its contract.
 use mathlib.Core.Path.{◌∙◌}
-use Prim.Native.Nat.{◌-◌}
 use lib.ListN.{length}
 use Rattle.cells.proofs.PlaneLaws.{kept-fits}
 use Rattle.cells.proofs.FillLaws.{plane-start, plane-next, plane_end}

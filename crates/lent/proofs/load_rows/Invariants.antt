@@ -9,6 +9,3 @@ use Rattle.lent.proofs.load_rows.Given as goal
 
 abbrev pub invariant-loop-row : goal.invariant-loop-row
 invariant-loop-row l = (l.row ≤ length l.rows) × (l.at ≡ start_of l.rows l.row) × PlaneFilled (row_cells l.rows (lent_cell l.kinds l.regions)) l.initial.plane l.plane l.row
-
-abbrev pub decreases-loop-row : goal.decreases-loop-row
-decreases-loop-row l = length l.rows - l.row

@@ -1,5 +1,5 @@
 -- `lent::load_texts` meets its contract.
-use Prim.Native.Nat.{ℕ, ◌+◌, ◌-◌, ◌*◌, ◌≤◌, ◌<◌}
+use Prim.Native.Nat.{ℕ, ◌+◌, ◌*◌, ◌≤◌, ◌<◌}
 use lib.ListN.{length, get_or}
 use lib.Seq.{lt-length-set}
 use Rattle.model.specs.Limits.{text_bytes}

@@ -6,6 +6,3 @@ use Rattle.lent.proofs.load_texts.Given as goal
 
 abbrev pub invariant-loop-k : goal.invariant-loop-k
 invariant-loop-k l = (l.k ≤ length l.offsets) × SpansFilled (text_on l.offsets l.sizes l.bytes) l.bytes l.initial.spans l.spans l.k
-
-abbrev pub decreases-loop-k : goal.decreases-loop-k
-decreases-loop-k l = length l.offsets - l.k

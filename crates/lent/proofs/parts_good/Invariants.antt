@@ -8,6 +8,3 @@ use Rattle.lent.proofs.parts_good.Given as goal
 
 abbrev pub invariant-loop-k : goal.invariant-loop-k
 invariant-loop-k l = (l.k ≤ length l.offsets) × (all_at (good_at l.offsets l.sizes l.bytes) l.k ≡ true)
-
-abbrev pub decreases-loop-k : goal.decreases-loop-k
-decreases-loop-k l = length l.offsets - l.k

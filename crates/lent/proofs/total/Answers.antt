@@ -1,6 +1,5 @@
 -- `lent::total` meets its contract.
 use mathlib.Core.Path.{◌∙◌}
-use Prim.Native.Nat.{◌-◌}
 use Rattle.lent.proofs.SumLaws.{start_zero, start-next, start_end}
 use native.Mathlib.Omega.{arith}
 use Rattle.lent.proofs.total.Goals as goal

@@ -6,6 +6,3 @@ use Rattle.lent.proofs.total.Given as goal
 
 abbrev pub invariant-loop-i : goal.invariant-loop-i
 invariant-loop-i l = (l.i ≤ length l.rows) × (l.n ≡ start_of l.rows l.i) × (l.n ≤ l.i * 2 ^ 32)
-
-abbrev pub decreases-loop-i : goal.decreases-loop-i
-decreases-loop-i l = length l.rows - l.i

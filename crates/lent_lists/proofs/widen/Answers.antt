@@ -1,5 +1,5 @@
 -- `lent_lists::widen` meets its contract.
-use Prim.Native.Nat.{◌+◌, ◌-◌}
+use Prim.Native.Nat.{◌+◌}
 use Rattle.lent_lists.proofs.Widening.{widening_start, widening_more, widening_end}
 use native.Mathlib.Omega.{arith}
 use Rattle.lent_lists.proofs.widen.Goals as goal

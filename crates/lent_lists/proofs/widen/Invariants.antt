@@ -4,6 +4,3 @@ use Rattle.lent_lists.proofs.widen.Given as goal
 
 abbrev pub invariant-loop-i : goal.invariant-loop-i
 invariant-loop-i l = Widening l.s l.at l.end l.initial.into l.into l.i
-
-abbrev pub decreases-loop-i : goal.decreases-loop-i
-decreases-loop-i l = l.end - l.start - l.i

@@ -1,5 +1,5 @@
 -- `lines::find` meets its contract.
-use Prim.Native.Nat.{◌-◌}
+use Rattle.std.proofs.Common.{◌≡◌, length, arith}
 use Rattle.lines.proofs.Finding.{seeking_start, seeking_end, seeking_found, seeking_more}
 use Rattle.lines.proofs.find.Goals as goal
 
@@ -13,4 +13,6 @@ pub loop-i-preserved : goal.loop-i-preserved
 loop-i-preserved c = seeking_more c.loop-i.invariant c.loop-i-test.true c.if-s-i.false
 
 pub returns : goal.returns
-returns c = seeking_end c.loop-i.invariant c.loop-i-test.false
+returns c =
+    let e : c.loop-i.i ≡ length c.args.s.now = omega (arith, c.loop-i-test.false, c.loop-i.auto.i-end, c.requires) in
+    rw e at (seeking_end c.loop-i.invariant c.loop-i-test.false)

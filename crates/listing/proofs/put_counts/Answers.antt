@@ -1,5 +1,4 @@
 -- `listing::put_counts` meets its contract.
-use mathlib.Core.Path.{refl}
 use Rattle.print.proofs.WrittenLaws.{written_within}
 use Rattle.listing.specs.RecordLines.{count_lines}
 use Rattle.listing.proofs.LineLaws.{written_four}

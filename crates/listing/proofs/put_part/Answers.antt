@@ -1,5 +1,4 @@
 -- `listing::put_part` meets its contract.
-use mathlib.Core.Path.{refl}
 use Rattle.print.proofs.WrittenLaws.{written_then, written_within}
 use Rattle.listing.specs.RecordLines.{part_words}
 use Rattle.listing.proofs.LineLaws.{written_part}

@@ -1,5 +1,4 @@
 -- `listing::put_record` meets its contract.
-use Prim.Native.Nat.{◌-◌}
 use mathlib.Core.Path.{◌∙◌}
 use Rattle.listing.proofs.LineLaws.{listing_start, listing_room, listing_more, listing_end}
 use native.Mathlib.Omega.{arith}

@@ -1,5 +1,5 @@
 -- `listing::put_slot` meets its contract.
-use mathlib.Core.Path.{sym, ◌∙◌, refl}
+use mathlib.Core.Path.{sym, ◌∙◌}
 use Rattle.print.proofs.WrittenLaws.{written_then, written_within, written_as}
 use Rattle.listing.specs.RecordLines.{absent_line, present_line}
 use Rattle.listing.proofs.LineLaws.{slot_absent, slot_present}

@@ -6,43 +6,42 @@ use lib.ListN.{take}
 use Rattle.lists.proofs.RunLaws.{length_run}
 use Rattle.model.specs.declared.Rect.{Rect}
 use Rattle.rects.specs.Rects.{rect_at, rects_of}
-use Rattle.lookup.specs.Lookup.{first_of}
-use Rattle.lookup.proofs.FirstLaws.{filled_take, first-few, without_above}
+use Rattle.lookup.specs.Numbers.{number_in}
+use Rattle.lookup.proofs.FirstLaws.{filled_take, number-few, without_any}
 use Rattle.lookup.proofs.NumberLaws.{numbering_next}
 use Rattle.lookup.proofs.number_frames.Goals as goal
-use Rattle.lookup.proofs.number_frames.Goals.{After-fill, After-first_containing-k}
+use Rattle.lookup.proofs.number_frames.Goals.{After-fill, After-number_in-k}
 
 -- the first rects of the array are those of the numbers
 rects_are : (c : After-fill) → take c.args.count c.fill.new.rects ≡ rects_of c.args.nums.now c.args.count
 rects_are c = ap (take c.args.count) c.fill.ensures ∙ filled_take _ c.args.nums.now c.args.count
 
 -- the first rect that contains the frame, of those of the numbers
-found_is : (c : After-first_containing-k) → take c.args.count c.fill.new.rects ≡ rects_of c.args.nums.now c.args.count
-    → c.first_containing-k.result ≡ first_of (rects_of c.args.nums.now c.args.count) c.seek-s.result.frame
-found_is c e = c.first_containing-k.ensures ∙ ap (λ (t : List Rect). first_of t c.seek-s.result.frame) e
+found_is : (c : After-number_in-k) → take c.args.count c.fill.new.rects ≡ rects_of c.args.nums.now c.args.count
+    → c.number_in-k.result ≡ number_in (rects_of c.args.nums.now c.args.count) c.seek-s.result.frame
+found_is c e = c.number_in-k.ensures ∙ ap (λ (t : List Rect). number_in t c.seek-s.result.frame) e
 
-pub first_containing-k-requires : goal.first_containing-k-requires
-first_containing-k-requires c =
+pub number_in-k-requires : goal.number_in-k-requires
+number_in-k-requires c =
     let to = c.live-from.ensures in
     let seen = c.seek-s.ensures in (
       to.1,
       omega (arith, c.fill.auto.rects, c.requires.1),
-      without_above _ c.args.nums.now c.args.count _ _ _ (rects_are (goal.at.first_containing-k-requires c).After-fill) to.1 to.2 seen.ends,
+      without_any _ c.args.nums.now c.args.count _ _ _ (rects_are (goal.at.number_in-k-requires c).After-fill) to.1 to.2 seen.ends,
     )
 
 pub put_number-i-requires : goal.put_number-i-requires
 put_number-i-requires c =
     let a = c.args in
     let few = c.requires.1 in
-    let e = found_is (goal.at.put_number-i-requires c).After-first_containing-k (rects_are (goal.at.put_number-i-requires c).After-fill) in
-    let k = first-few (rects_of a.nums.now a.count) c.seek-s.result.frame in (
+    let e = found_is (goal.at.put_number-i-requires c).After-number_in-k (rects_are (goal.at.put_number-i-requires c).After-fill) in
+    let k = number-few (rects_of a.nums.now a.count) c.seek-s.result.frame in (
       omega (arith, c.loop-i.invariant.long, c.requires.3),
       omega (arith, e, k, length_run (rect_at a.nums.now) 0 a.count, few),
-      omega (arith, few),
     )
 
 pub loop-i-preserved : goal.loop-i-preserved
 loop-i-preserved c =
     let to = c.live-from.ensures in
-    let e = found_is (goal.at.loop-i-preserved c).After-first_containing-k (rects_are (goal.at.loop-i-preserved c).After-fill) in
+    let e = found_is (goal.at.loop-i-preserved c).After-number_in-k (rects_are (goal.at.loop-i-preserved c).After-fill) in
     (numbering_next c.loop-i.invariant c.loop-i-test.true c.requires.3 c.seek-s.ensures _ to.1 to.2 _ e _ _ c.put_number-i.ensures c.put_number-i.auto.found).1

@@ -1,13 +1,14 @@
 -- `numbers::split_numbers` meets its contract.
-use mathlib.Core.Path.{sym, ap}
+use Rattle.std.specs.Prelude.{Ok}
+use mathlib.Core.Path.{sym, ap, ◌∙◌}
 use Rattle.numbers.specs.Answers.{split_answer}
 use Rattle.numbers.proofs.split_numbers.Goals as goal
 
-pub returns-in-Own : goal.returns-in-Own
-returns-in-Own c = ap split_answer (sym c.in-Own.is)
+pub returns-in-Ok-None : goal.returns-in-Ok-None
+returns-in-Ok-None c = ap split_answer (sym (c.in-Ok-None.is ∙ ap Ok (rw c.in-Ok-None.is at c.in-Ok-None.field-0-is)))
 
-pub returns-in-Rewritten : goal.returns-in-Rewritten
-returns-in-Rewritten c = ap split_answer (sym c.in-Rewritten.is)
+pub returns-in-Ok-Some : goal.returns-in-Ok-Some
+returns-in-Ok-Some c = ap split_answer (sym (c.in-Ok-Some.is ∙ ap Ok (rw c.in-Ok-Some.is at c.in-Ok-Some.field-0-is)))
 
-pub returns-in-NotSplit : goal.returns-in-NotSplit
-returns-in-NotSplit c = rw c.refusal_numbers-x.ensures (ap split_answer (sym c.in-NotSplit.is))
+pub returns-in-Err : goal.returns-in-Err
+returns-in-Err c = rw c.refusal_numbers-x.ensures (ap split_answer (sym c.in-Err.is))

@@ -1,5 +1,4 @@
 -- `numerals::unsigned_number` meets its contract.
-use Prim.Native.Nat.{◌-◌}
 use Rattle.numerals.proofs.NumberLaws.{digits-start, digits_low, digits-high, digits_over, digits_more, digits_done, no_digits}
 use native.Mathlib.Omega.{arith}
 use borrow.Author.Rules.{rules}
@@ -21,7 +20,7 @@ pub returns-then-d-a : goal.returns-then-d-a
 returns-then-d-a c = digits_over c.loop-i.invariant (omega arith) (omega arith) (omega arith) (omega arith)
 
 pub loop-i-preserved : goal.loop-i-preserved
-loop-i-preserved c = digits_more c.loop-i.invariant (omega arith) (omega arith) (omega arith) c.wide-d.result c.wide-d.ensures (omega arith)
+loop-i-preserved c = digits_more c.loop-i.invariant (omega arith) (omega arith) (omega arith) c.from-d.result c.from-d.ensures (omega arith)
 
 pub returns : goal.returns
 returns c = digits_done c.loop-i.invariant c.loop-i-test.false

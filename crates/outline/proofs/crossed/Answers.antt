@@ -5,10 +5,10 @@ use Rattle.outline.proofs.crossed.Goals as goal
 
 pub overflow_add-result : goal.overflow_add-result
 overflow_add-result c =
-    record { fits = subst (WalkFits c.args.from) c.in-Steps.is c.requires }
+    record { fits = subst (WalkFits c.args.from) c.in-Ok.is c.requires }
 
-pub returns-in-Steps : goal.returns-in-Steps
-returns-in-Steps c = rw c.in-Steps.is
+pub returns-in-Ok : goal.returns-in-Ok
+returns-in-Ok c = rw c.in-Ok.is
 
-pub returns-in-Stopped : goal.returns-in-Stopped
-returns-in-Stopped c = rw c.in-Stopped.is
+pub returns-in-Err : goal.returns-in-Err
+returns-in-Err c = rw c.in-Err.is

@@ -1,6 +1,6 @@
 -- `outline::name_above` meets its contract.
+use Rattle.std.proofs.lemmas.Result.{err_from_is_err_and}
 use mathlib.Core.Path.{sym, ap, ◌∙◌}
-use Rattle.walks.specs.Frame.{framed_in}
 use Rattle.outline.specs.Outline.{named_of}
 use Rattle.outline.proofs.OutlineLaws.{none_above, name_above_lem, name-refused}
 use native.Mathlib.Omega.{arith}
@@ -11,10 +11,11 @@ returns-then-row-eq0 c =
     let a = c.args in
     none_above _ _ _ ∙ ap (named_of _ a.w a.h) (sym c.if-row-eq0.true)
 
-pub returns-in-Closed : goal.returns-in-Closed
-returns-in-Closed c =
-    name_above_lem _ _ _ _ (omega (arith, c.if-row-eq0.false)) _ (sym c.recognize_name.ensures ∙ ap framed_in c.in-Closed.is)
+pub returns : goal.returns
+returns c =
+    name_above_lem _ _ _ _ (omega (arith, c.if-row-eq0.false)) _ (sym c.recognize_name.ensures ∙ c.in_ok-recognize_name.was)
 
-pub returns-in-NotFramed : goal.returns-in-NotFramed
-returns-in-NotFramed c =
-    name-refused _ _ _ _ (omega (arith, c.if-row-eq0.false)) _ (sym c.recognize_name.ensures ∙ ap framed_in c.in-NotFramed.is)
+pub returns-in_err-recognize_name : goal.returns-in_err-recognize_name
+returns-in_err-recognize_name c =
+    let p = err_from_is_err_and c.from_residual.result c.from_residual.ensures.1 in
+    rw (p.1, p.2) (name-refused _ _ _ _ (omega (arith, c.if-row-eq0.false)) _ (sym c.recognize_name.ensures ∙ c.in_err-recognize_name.was))

@@ -1,40 +1,42 @@
 -- `outline::recognize_outline` meets its contract. One law of `outline_of` for each step.
-use mathlib.Core.Path.{◌≡◌, sym, ap, ◌∙◌}
+use Rattle.std.proofs.lemmas.Result.{err_from_is_err_and}
+use Rattle.std.specs.Prelude.{Ok}
+use mathlib.Core.Path.{◌≡◌, sym, ◌∙◌}
 use Prim.Native.Nat.{◌*◌, ◌/◌, ◌<◌}
-use Rattle.lists.specs.Answer.{ok}
 use Rattle.lists.specs.Picture.{canvas}
 use Rattle.lists.proofs.PlaceLaws.{columns, row_in_lem}
 use Rattle.model.specs.Box.{┌, ╥, ╬}
 use Rattle.outline.specs.Outline.{search_of, named_of}
-use Rattle.outline.specs.Answers.{place_in, named_in}
 use Rattle.outline.proofs.OutlineLaws.{search_in, no_corner, no_edge, no_name, no_crossing, table_is}
 use native.Mathlib.Omega.{arith}
 use Rattle.outline.proofs.recognize_outline.Goals as goal
-use Rattle.outline.proofs.recognize_outline.Goals.{In-Place, In-Place-search, In-Place-search-2, In-Told}
+use Rattle.outline.proofs.recognize_outline.Goals.{In_ok-search, In_ok-edge, In_ok-cross, In_ok-has_name}
 
 -- what was found
-did1 : (c : In-Place) → search_of ┌ (canvas c.args.w c.args.h c.args.layer.now) c.args.w c.args.h ≡ ok c.in-Place.field-0
-did1 c = sym c.search.ensures ∙ ap place_in c.in-Place.is
+did1 : (c : In_ok-search) → search_of ┌ (canvas c.args.w c.args.h c.args.layer.now) c.args.w c.args.h ≡ Ok c.in_ok-search.field-0
+did1 c = sym c.search.ensures ∙ c.in_ok-search.was
 
-did2 : (c : In-Place-search) → search_of ╥ (canvas c.args.w c.args.h c.args.layer.now) c.args.w c.args.h ≡ ok c.in-Place-search.i
-did2 c = sym c.search-2.ensures ∙ ap place_in c.in-Place-search.is
+did2 : (c : In_ok-edge) → search_of ╥ (canvas c.args.w c.args.h c.args.layer.now) c.args.w c.args.h ≡ Ok c.in_ok-edge.edge
+did2 c = sym c.search-2.ensures ∙ c.in_ok-edge.was
 
-edge_in : (c : In-Place-search) → c.in-Place-search.i < c.args.h * c.args.w
+edge_in : (c : In_ok-edge) → c.in_ok-edge.edge < c.args.h * c.args.w
 edge_in c = search_in ╥ (canvas c.args.w c.args.h c.args.layer.now) c.args.w c.args.h _ (did2 c)
 
-did3 : (c : In-Told) → named_of (canvas c.args.w c.args.h c.args.layer.now) c.args.w c.args.h (c.in-Place-search.i / c.args.w) ≡ ok c.in-Told.b
-did3 c = sym c.name_above.ensures ∙ ap named_in c.in-Told.is
+did3 : (c : In_ok-has_name) → named_of (canvas c.args.w c.args.h c.args.layer.now) c.args.w c.args.h (c.in_ok-edge.edge / c.args.w) ≡ Ok c.in_ok-has_name.has_name
+did3 c = sym c.name_above.ensures ∙ c.in_ok-has_name.was
 
-did4 : (c : In-Place-search-2) → search_of ╬ (canvas c.args.w c.args.h c.args.layer.now) c.args.w c.args.h ≡ ok c.in-Place-search-2.i
-did4 c = sym c.search-3.ensures ∙ ap place_in c.in-Place-search-2.is
+did4 : (c : In_ok-cross) → search_of ╬ (canvas c.args.w c.args.h c.args.layer.now) c.args.w c.args.h ≡ Ok c.in_ok-cross.cross
+did4 c = sym c.search-3.ensures ∙ c.in_ok-cross.was
 
-pub returns-in-NotFound : goal.returns-in-NotFound
-returns-in-NotFound c =
-    no_corner (canvas c.args.w c.args.h c.args.layer.now) c.args.w c.args.h _ (sym c.search.ensures ∙ ap place_in c.in-NotFound.is)
+pub returns-in_err-search : goal.returns-in_err-search
+returns-in_err-search c =
+    let p = err_from_is_err_and c.from_residual.result c.from_residual.ensures.1 in
+    rw (p.1, p.2) (no_corner (canvas c.args.w c.args.h c.args.layer.now) c.args.w c.args.h _ (sym c.search.ensures ∙ c.in_err-search.was))
 
-pub returns-in-NotFound-search : goal.returns-in-NotFound-search
-returns-in-NotFound-search c =
-    no_edge (canvas c.args.w c.args.h c.args.layer.now) c.args.w c.args.h _ (did1 (goal.at.returns-in-NotFound-search c).In-Place) _ (sym c.search-2.ensures ∙ ap place_in c.in-NotFound-search.is)
+pub returns-in_err-edge : goal.returns-in_err-edge
+returns-in_err-edge c =
+    let p = err_from_is_err_and c.from_residual-in_err-edge.result c.from_residual-in_err-edge.ensures.1 in
+    rw (p.1, p.2) (no_edge (canvas c.args.w c.args.h c.args.layer.now) c.args.w c.args.h _ (did1 (goal.at.returns-in_err-edge c).In_ok-search) _ (sym c.search-2.ensures ∙ c.in_err-edge.was))
 
 pub nonzero_div-edge : goal.nonzero_div-edge
 nonzero_div-edge c = columns c.args.w c.args.h _ (edge_in c)
@@ -43,17 +45,19 @@ pub name_above-requires : goal.name_above-requires
 name_above-requires c =
     record { column = columns c.args.w c.args.h _ (edge_in c); row = omega (arith, row_in_lem c.args.w c.args.h _ (edge_in c)); size = c.requires }
 
-pub returns-in-NotNamed : goal.returns-in-NotNamed
-returns-in-NotNamed c =
-    no_name (canvas c.args.w c.args.h c.args.layer.now) c.args.w c.args.h _ (did1 (goal.at.returns-in-NotNamed c).In-Place) _ (did2 (goal.at.returns-in-NotNamed c).In-Place-search) _ (sym c.name_above.ensures ∙ ap named_in c.in-NotNamed.is)
+pub returns-in_err-has_name : goal.returns-in_err-has_name
+returns-in_err-has_name c =
+    let p = err_from_is_err_and c.from_residual-in_err-has_name.result c.from_residual-in_err-has_name.ensures.1 in
+    rw (p.1, p.2) (no_name (canvas c.args.w c.args.h c.args.layer.now) c.args.w c.args.h _ (did1 (goal.at.returns-in_err-has_name c).In_ok-search) _ (did2 (goal.at.returns-in_err-has_name c).In_ok-edge) _ (sym c.name_above.ensures ∙ c.in_err-has_name.was))
 
 pub recognize_table-requires : goal.recognize_table-requires
 recognize_table-requires c = (search_in ╬ (canvas c.args.w c.args.h c.args.layer.now) c.args.w c.args.h _ (did4 c), c.requires)
 
-pub returns-in-Place-search-2 : goal.returns-in-Place-search-2
-returns-in-Place-search-2 c =
-    c.recognize_table.ensures ∙ table_is (canvas c.args.w c.args.h c.args.layer.now) c.args.w c.args.h _ (did1 (goal.at.returns-in-Place-search-2 c).In-Place) _ (did2 (goal.at.returns-in-Place-search-2 c).In-Place-search) _ (did3 (goal.at.returns-in-Place-search-2 c).In-Told) _ (did4 (goal.at.returns-in-Place-search-2 c).In-Place-search-2)
+pub returns : goal.returns
+returns c =
+    c.recognize_table.ensures ∙ table_is (canvas c.args.w c.args.h c.args.layer.now) c.args.w c.args.h _ (did1 (goal.at.returns c).In_ok-search) _ (did2 (goal.at.returns c).In_ok-edge) _ (did3 (goal.at.returns c).In_ok-has_name) _ (did4 (goal.at.returns c).In_ok-cross)
 
-pub returns-in-NotFound-search-2 : goal.returns-in-NotFound-search-2
-returns-in-NotFound-search-2 c =
-    no_crossing (canvas c.args.w c.args.h c.args.layer.now) c.args.w c.args.h _ (did1 (goal.at.returns-in-NotFound-search-2 c).In-Place) _ (did2 (goal.at.returns-in-NotFound-search-2 c).In-Place-search) _ (did3 (goal.at.returns-in-NotFound-search-2 c).In-Told) _ (sym c.search-3.ensures ∙ ap place_in c.in-NotFound-search-2.is)
+pub returns-in_err-cross : goal.returns-in_err-cross
+returns-in_err-cross c =
+    let p = err_from_is_err_and c.from_residual-in_err-cross.result c.from_residual-in_err-cross.ensures.1 in
+    rw (p.1, p.2) (no_crossing (canvas c.args.w c.args.h c.args.layer.now) c.args.w c.args.h _ (did1 (goal.at.returns-in_err-cross c).In_ok-search) _ (did2 (goal.at.returns-in_err-cross c).In_ok-edge) _ (did3 (goal.at.returns-in_err-cross c).In_ok-has_name) _ (sym c.search-3.ensures ∙ c.in_err-cross.was))

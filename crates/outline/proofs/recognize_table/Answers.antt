@@ -1,9 +1,10 @@
 -- `outline::recognize_table` meets its contract.
-use mathlib.Core.Path.{sym, ap, ◌∙◌}
+use Rattle.std.proofs.lemmas.Result.{err_from_is_err_and}
+use mathlib.Core.Path.{sym, ◌∙◌}
 use Prim.Native.Nat.{◌/◌, ◌%◌}
 use lib.ListN.{length}
 use Rattle.lists.proofs.PlaceLaws.{columns, column_in, row_in_lem}
-use Rattle.walks.specs.Frame.{Place, framed_in}
+use Rattle.walks.specs.Frame.{Place}
 use Rattle.outline.proofs.OutlineLaws.{walk_fits, table_made, no_body}
 use native.Mathlib.Omega.{arith}
 use Rattle.outline.proofs.recognize_table.Goals as goal
@@ -24,9 +25,10 @@ nonzero_div-y c = columns c.args.w c.args.h c.args.cross c.requires.0
 pub recognize_body-requires : goal.recognize_body-requires
 recognize_body-requires c = spot (goal.at.recognize_body-requires c).Start
 
-pub returns-in-NotFramed : goal.returns-in-NotFramed
-returns-in-NotFramed c =
-    no_body _ _ _ _ _ _ (sym c.recognize_body.ensures ∙ ap framed_in c.in-NotFramed.is)
+pub returns-in_err-body : goal.returns-in_err-body
+returns-in_err-body c =
+    let p = err_from_is_err_and c.from_residual.result c.from_residual.ensures.1 in
+    rw (p.1, p.2) (no_body _ _ _ _ _ _ (sym c.recognize_body.ensures ∙ c.in_err-body.was))
 
 pub crossing_right-requires : goal.crossing_right-requires
 crossing_right-requires c = spot (goal.at.crossing_right-requires c).Start
@@ -44,5 +46,5 @@ crossed-below-requires c =
 
 pub returns : goal.returns
 returns c =
-    table_made _ _ _ _ _ _ (sym c.recognize_body.ensures ∙ ap framed_in c.in-Closed.is) c.crossing_right.result c.crossing_below.result
+    table_made _ _ _ _ _ _ (sym c.recognize_body.ensures ∙ c.in_ok-body.was) c.crossing_right.result c.crossing_below.result
     c.crossed-right.ensures c.crossing_right.ensures c.crossed-below.ensures c.crossing_below.ensures

@@ -1,6 +1,5 @@
 -- `outline::search` meets its contract.
 use mathlib.Core.Path.{sym, ◌∙◌}
-use Prim.Native.Nat.{◌-◌}
 use Rattle.lists.proofs.PlaceLaws.{at-canvas}
 use Rattle.outline.proofs.OutlineLaws.{searching_start, searching_found, searching_more, searching_end}
 use Rattle.outline.proofs.search.Goals as goal

@@ -5,6 +5,3 @@ use Rattle.outline.proofs.search.Given as goal
 
 abbrev pub invariant-loop-i : goal.invariant-loop-i
 invariant-loop-i l = Searching (at (canvas l.w l.h l.layer) l.w) l.code (l.h * l.w) l.i
-
-abbrev pub decreases-loop-i : goal.decreases-loop-i
-decreases-loop-i l = l.h * l.w - l.i

@@ -6,6 +6,3 @@ use Rattle.passes.proofs.pass_row.Given as goal
 
 abbrev pub invariant-loop-i : goal.invariant-loop-i
 invariant-loop-i l = Passed (fine (plane_in l.plane l.rows) l.y) l.x l.n (l.x + l.i)
-
-abbrev pub decreases-loop-i : goal.decreases-loop-i
-decreases-loop-i l = l.n - l.i

@@ -6,6 +6,3 @@ use Rattle.passes.proofs.pass_rows.Given as goal
 
 abbrev pub invariant-loop-k : goal.invariant-loop-k
 invariant-loop-k l = Passed (λ j. fine_row (plane_in l.plane l.rows) j l.x l.n) l.y (l.rows - l.y) l.k
-
-abbrev pub decreases-loop-k : goal.decreases-loop-k
-decreases-loop-k l = l.rows - l.k

@@ -1,15 +1,17 @@
 -- `placement::bottom_left` meets its contract.
+use Rattle.std.proofs.lemmas.Result.{err_from_is_err_and}
 use Rattle.placement.proofs.CornerLaws.{bottom-corner, bottom-refused}
 use Rattle.placement.proofs.bottom_left.Goals as goal
 
-pub returns-in-Policy : goal.returns-in-Policy
-returns-in-Policy c =
-    bottom-corner _ _ _ c.requires.1 _ (rw (c.in-Begins.is, c.in-Policy.is) at c.corner_policy.ensures)
+pub returns-in-Some : goal.returns-in-Some
+returns-in-Some c =
+    bottom-corner _ _ _ c.requires.1 _ (rw c.in-Some.is at c.in_ok-p.ensures)
 
-pub returns-in-NoPolicy : goal.returns-in-NoPolicy
-returns-in-NoPolicy c =
-    bottom-corner _ _ _ c.requires.1 _ (rw (c.in-Begins.is, c.in-NoPolicy.is) at c.corner_policy.ensures)
+pub returns-in-None : goal.returns-in-None
+returns-in-None c =
+    bottom-corner _ _ _ c.requires.1 _ (rw c.in-None.is at c.in_ok-p.ensures)
 
-pub returns-in-NoCorner : goal.returns-in-NoCorner
-returns-in-NoCorner c =
-    bottom-refused _ _ _ c.requires.1 _ (rw c.in-NoCorner.is at c.corner_policy.ensures)
+pub returns-in_err-p : goal.returns-in_err-p
+returns-in_err-p c =
+    let p = err_from_is_err_and c.from_residual.result c.from_residual.ensures.1 in
+    rw (p.1, p.2) (bottom-refused _ _ _ c.requires.1 _ c.in_err-p.ensures)

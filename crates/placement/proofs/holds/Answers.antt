@@ -1,7 +1,5 @@
 -- `placement::holds` meets its contract.
 use mathlib.Core.Path.{sym, ◌∙◌}
-use Prim.Native.Nat.{◌-◌}
-use Rattle.placement.specs.Orientation.{holds_in}
 use Rattle.placement.proofs.HoldsLaws.{plane-holds, seek_start, seek_found, seek_on, seek_end}
 use borrow.Author.Rules.{rules}
 use Rattle.placement.proofs.holds.Goals as goal

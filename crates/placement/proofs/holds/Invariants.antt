@@ -1,4 +1,3 @@
-use Prim.Native.Nat.{◌-◌}
 use Rattle.cells.specs.Plane.{row_in}
 use Rattle.placement.specs.Orientation.{holds_in}
 use Rattle.placement.proofs.HoldsLaws.{Sought}
@@ -6,6 +5,3 @@ use Rattle.placement.proofs.holds.Given as goal
 
 abbrev pub invariant-loop-row : goal.invariant-loop-row
 invariant-loop-row l = Sought (holds_in l.kind) l.n (row_in l.plane) l.row
-
-abbrev pub decreases-loop-row : goal.decreases-loop-row
-decreases-loop-row l = l.n - l.row

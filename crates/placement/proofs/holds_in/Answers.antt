@@ -1,8 +1,6 @@
 -- `placement::holds_in` meets its contract.
 use mathlib.Core.Path.{sym, ap, ◌∙◌}
-use Prim.Native.Nat.{◌-◌}
 use Rattle.model.specs.Cells.{same_kind}
-use Rattle.cells.specs.Plane.{cell_at}
 use Rattle.placement.proofs.HoldsLaws.{row-holds, seek_start, seek_found, seek_on, seek_end}
 use native.Mathlib.Omega.{arith}
 use borrow.Author.Rules.{rules}
@@ -17,19 +15,16 @@ loop-i-init c = seek_start _ _ _
 pub cell_at-requires : goal.cell_at-requires
 cell_at-requires c = let h = c.requires.0.cells c.args.row c.requires.1 in search rules
 
-pub returns-then-same_kind : goal.returns-then-same_kind
-returns-then-same_kind c =
+pub returns-then-is_same_kind : goal.returns-then-is_same_kind
+returns-then-is_same_kind c =
     let a = c.args in
-    seek_found c.loop-i.invariant (search rules) (ap (same_kind a.kind) (sym c.cell_at.ensures.cell) ∙ sym c.same_kind.ensures ∙ c.if-same_kind.true)
+    seek_found c.loop-i.invariant (search rules) (ap (same_kind a.kind) (sym c.cell_at.ensures.cell) ∙ sym c.is_same_kind.ensures ∙ c.if-is_same_kind.true)
     ∙ row-holds a.kind a.plane.now a.row _
-
-pub overflow_add-i : goal.overflow_add-i
-overflow_add-i c = let h = c.requires.0.cells c.args.row c.requires.1 in search rules
 
 pub loop-i-preserved : goal.loop-i-preserved
 loop-i-preserved c =
     let a = c.args in
-    seek_on c.loop-i.invariant (search rules) (ap (same_kind a.kind) (sym c.cell_at.ensures.cell) ∙ sym c.same_kind.ensures ∙ c.if-same_kind.false)
+    seek_on c.loop-i.invariant (search rules) (ap (same_kind a.kind) (sym c.cell_at.ensures.cell) ∙ sym c.is_same_kind.ensures ∙ c.if-is_same_kind.false)
 
 pub returns : goal.returns
 returns c = seek_end c.loop-i.invariant c.loop-i-test.false ∙ row-holds _ _ _ _

@@ -1,26 +1,25 @@
 -- `placement::orient` meets its contract.
+use Rattle.std.proofs.lemmas.Result.{err_from_is_err_and}
 use Rattle.placement.specs.Orientation.{oriented_of}
 use Rattle.placement.proofs.CornerLaws.{placed-rows}
 use Rattle.placement.proofs.orient.Goals as goal
 
-pub returns-in-NotPlaced : goal.returns-in-NotPlaced
+pub returns-in_err-p : goal.returns-in_err-p
 unfolding oriented_of
-returns-in-NotPlaced c = let e = rw c.in-NotPlaced.is at c.hit_policy_placement.ensures in rw (← e)
+returns-in_err-p c =
+    let p = err_from_is_err_and c.from_residual.result c.from_residual.ensures.1 in
+    rw (p.1, p.2, ← c.in_err-p.ensures)
 
 pub rule_numbers-requires : goal.rule_numbers-requires
-rule_numbers-requires c =
-    (c.requires, placed-rows _ _ _ _ (rw c.in-Placement.is at c.hit_policy_placement.ensures))
+rule_numbers-requires c = (c.requires, placed-rows _ _ _ _ c.in_ok-p.ensures)
 
-pub returns-in-NotNumbered : goal.returns-in-NotNumbered
+pub returns-in_err-m : goal.returns-in_err-m
 unfolding oriented_of
-returns-in-NotNumbered c =
-    let e = rw c.in-Placement.is at c.hit_policy_placement.ensures in
-    let f = rw c.in-NotNumbered.is at c.rule_numbers.ensures in
-    rw (← e, ← f)
+returns-in_err-m c =
+    let p = err_from_is_err_and c.from_residual-in_err-m.result c.from_residual-in_err-m.ensures.1 in
+    rw (p.1, p.2, ← c.in_ok-p.ensures, ← c.in_err-m.ensures)
 
 pub returns : goal.returns
 unfolding oriented_of
 returns c =
-    let e = rw c.in-Placement.is at c.hit_policy_placement.ensures in
-    let f = rw c.in-Numbers.is at c.rule_numbers.ensures in
-    rw (← e, ← f, ← c.holds-horizontal.ensures, ← c.holds-vertical.ensures) c.oriented_by.ensures
+    rw (← c.in_ok-p.ensures, ← c.in_ok-m.ensures, ← c.holds-horizontal.ensures, ← c.holds-vertical.ensures) c.oriented_by.ensures

@@ -7,10 +7,10 @@ use Rattle.print.specs.Decimal.{decimal}
 use Rattle.print.proofs.WrittenLaws.{written_as}
 use Rattle.plane_lines.proofs.put_cell.Goals as goal
 
-pub cell_number-requires : goal.cell_number-requires
-cell_number-requires c = c.cell_at-c.ensures.small
+pub number-requires : goal.number-requires
+number-requires c = c.cell_at-c.ensures.small
 
 pub returns : goal.returns
 returns c =
     written_as c.put_behind.ensures
-    (ap (λ (m : ℕ). 0x20 ∷ decimal m) (c.cell_number.ensures ∙ ap cell_number c.cell_at-c.ensures.cell))
+    (ap (λ (m : ℕ). 0x20 ∷ decimal m) (c.number.ensures ∙ ap cell_number c.cell_at-c.ensures.cell))

@@ -1,6 +1,5 @@
 -- `plane_lines::put_cells` meets its contract.
 use mathlib.Core.Path.{refl, ◌∙◌}
-use Prim.Native.Nat.{◌-◌}
 use Rattle.plane_lines.proofs.PlaneLaws.{celling_start, celling_more, celling_end}
 use native.Mathlib.Omega.{arith}
 use Rattle.plane_lines.proofs.put_cells.Goals as goal
@@ -19,10 +18,6 @@ put_cell-n-requires c =
       omega (arith, few),
       c.requires.1.room,
     )
-
-pub overflow_add-i : goal.overflow_add-i
-overflow_add-i c =
-    record { fits = omega (arith, c.requires.1.cells c.args.row (omega arith)) }
 
 pub loop-i-preserved : goal.loop-i-preserved
 loop-i-preserved c =

@@ -1,6 +1,5 @@
 -- `plane_lines::put_plane` meets its contract.
-use Prim.Native.Nat.{◌-◌}
-use mathlib.Core.Path.{◌∙◌, refl}
+use mathlib.Core.Path.{◌∙◌}
 use Rattle.plane_lines.proofs.PlaneLaws.{rowing_start, rowing_room, rowing_more, rowing_end}
 use native.Mathlib.Omega.{arith}
 use Rattle.plane_lines.proofs.put_plane.Goals as goal

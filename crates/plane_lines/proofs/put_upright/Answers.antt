@@ -1,5 +1,4 @@
 -- `plane_lines::put_upright` meets its contract.
-use mathlib.Core.Path.{refl}
 use Rattle.print.proofs.WrittenLaws.{written_then, written_within}
 use Rattle.plane_lines.specs.Planes.{upright_lines}
 use native.Mathlib.Omega.{arith}

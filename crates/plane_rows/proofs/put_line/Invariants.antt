@@ -5,6 +5,3 @@ use Rattle.plane_rows.proofs.put_line.Given as goal
 
 abbrev pub invariant-loop-i : goal.invariant-loop-i
 invariant-loop-i l = (l.i ≤ l.width) × RowFilled (line_cell l.main l.output l.annotation) l.initial.plane l.plane l.row l.i
-
-abbrev pub decreases-loop-i : goal.decreases-loop-i
-decreases-loop-i l = l.width - l.i

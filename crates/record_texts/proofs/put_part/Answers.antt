@@ -1,4 +1,5 @@
 -- `record_texts::put_part` meets its contract.
+use mathlib.Core.Path.{refl}
 use Rattle.record_texts.proofs.Steps.{absent_part, part_within, present-fits, present_part}
 use Rattle.record_texts.proofs.put_part.Goals as goal
 
@@ -7,11 +8,11 @@ returns-then-slots-slot-eq-ABSENT c = let w = absent_part _ _ _ _ _ _ c.if-slots
 
 pub part-requires : goal.part-requires
 part-requires c =
-    part_within c.requires.parts.0 _ _ _ c.requires.parts.1.0 c.requires.parts.1.1 c.if-slots-slot-eq-ABSENT.false c.wide-a.ensures c.wide-n.ensures
+    part_within c.requires.parts.0 _ _ _ c.requires.parts.1.0 c.requires.parts.1.1 c.if-slots-slot-eq-ABSENT.false refl refl
 
 pub put_text-requires : goal.put_text-requires
 put_text-requires c =
-    present-fits c.requires.parts.0 _ _ _ c.requires.parts.1.0 c.requires.parts.1.1 c.if-slots-slot-eq-ABSENT.false c.wide-a.ensures c.wide-n.ensures _ c.part.ensures _ _ c.requires.fits
+    present-fits c.requires.parts.0 _ _ _ c.requires.parts.1.0 c.requires.parts.1.1 c.if-slots-slot-eq-ABSENT.false refl refl _ c.part.ensures _ _ c.requires.fits
 
 pub returns : goal.returns
-returns c = let w = present_part c.requires.parts.0 _ _ _ c.requires.parts.1.0 c.requires.parts.1.1 c.if-slots-slot-eq-ABSENT.false c.wide-a.ensures c.wide-n.ensures _ c.part.ensures _ _ _ _ (c.put_text.ensures.value, c.put_text.ensures.out_after) in record { value = w.0; out_after = w.1 }
+returns c = let w = present_part c.requires.parts.0 _ _ _ c.requires.parts.1.0 c.requires.parts.1.1 c.if-slots-slot-eq-ABSENT.false refl refl _ c.part.ensures _ _ _ _ (c.put_text.ensures.value, c.put_text.ensures.out_after) in record { value = w.0; out_after = w.1 }

@@ -1,5 +1,4 @@
 -- `record_texts::put_parts` meets its contract.
-use Prim.Native.Nat.{◌-◌}
 use Rattle.record_texts.proofs.Steps.{parts-start, part_fits, parts_next, parts_end}
 use Rattle.record_texts.proofs.PlainSlots.{plain_stop, plain_end}
 use Rattle.record_texts.proofs.put_parts.Goals as goal

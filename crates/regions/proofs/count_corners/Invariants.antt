@@ -5,6 +5,3 @@ use Rattle.regions.proofs.count_corners.Given as goal
 
 abbrev pub invariant-loop-i : goal.invariant-loop-i
 invariant-loop-i l = Counting (canvas l.w l.h l.layer) l.w l.h l.i l.n
-
-abbrev pub decreases-loop-i : goal.decreases-loop-i
-decreases-loop-i l = l.h * l.w - l.i

@@ -4,6 +4,3 @@ use Rattle.regions.proofs.next_corner.Given as goal
 
 abbrev pub invariant-loop-k : goal.invariant-loop-k
 invariant-loop-k l = Seeking (corner_in l.layer) l.size l.i l.k
-
-abbrev pub decreases-loop-k : goal.decreases-loop-k
-decreases-loop-k l = l.size - l.k

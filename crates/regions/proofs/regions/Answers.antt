@@ -6,9 +6,9 @@ use Rattle.regions.proofs.regions.Goals as goal
 pub returns-then-count_corners-gt-REGIONS : goal.returns-then-count_corners-gt-REGIONS
 returns-then-count_corners-gt-REGIONS c = too_many _ _ _ _ (omega (arith, c.count_corners.ensures, c.if-count_corners-gt-REGIONS.true))
 
-pub returns-in-Regions : goal.returns-in-Regions
-returns-in-Regions c = within_all _ _ _ _ _ (rw c.in-Regions.is at c.regions_within.ensures)
+pub returns-in-Ok : goal.returns-in-Ok
+returns-in-Ok c = within_all _ _ _ _ _ (rw c.in-Ok.is at c.regions_within.ensures)
 
 pub returns-else-count_corners-gt-REGIONS : goal.returns-else-count_corners-gt-REGIONS
 returns-else-count_corners-gt-REGIONS c =
-    within-out _ _ _ _ _ (omega (arith, c.count_corners.ensures, c.if-count_corners-gt-REGIONS.false)) (rw c.in-NotCounted.is at c.regions_within.ensures)
+    within-out _ _ _ _ _ (omega (arith, c.count_corners.ensures, c.if-count_corners-gt-REGIONS.false)) (rw c.in-Err.is at c.regions_within.ensures)

@@ -1,4 +1,5 @@
 -- `regions::regions_within` meets its contract.
+use Rattle.std.proofs.lemmas.Result.{err_from_is_err_and}
 use Rattle.regions.proofs.RegionLaws.{adding_start, adding_more, adding_out, adding_end}
 use native.Mathlib.Omega.{arith}
 use Rattle.regions.proofs.regions_within.Goals as goal
@@ -13,9 +14,10 @@ pub add_within-requires : goal.add_within-requires
 add_within-requires c =
     (c.requires.0, c.loop-i-test.true, omega (arith, c.requires.1, c.loop-i.invariant.long))
 
-pub returns-in-NotCounted : goal.returns-in-NotCounted
-returns-in-NotCounted c =
-    adding_out c.loop-i.invariant c.loop-i-test.true _ _ c.add_within.ensures _ c.in-NotCounted.is
+pub returns-in_err-n : goal.returns-in_err-n
+returns-in_err-n c =
+    let p = err_from_is_err_and c.from_residual.result c.from_residual.ensures.1 in
+    rw (p.1, p.2) (adding_out c.loop-i.invariant c.loop-i-test.true _ _ c.add_within.ensures _ c.in_err-n.was)
 
 pub next_corner-i-requires-in-loop-i : goal.next_corner-i-requires-in-loop-i
 next_corner-i-requires-in-loop-i c =
@@ -26,7 +28,7 @@ loop-i-smaller c = omega (arith, c.loop-i-test.true, c.next_corner-i-in-loop-i.e
 
 pub loop-i-preserved : goal.loop-i-preserved
 loop-i-preserved c =
-    adding_more c.loop-i.invariant c.loop-i-test.true _ _ c.add_within.ensures _ c.in-Regions.is c.add_within.auto.rects _ c.next_corner-i-in-loop-i.ensures
+    adding_more c.loop-i.invariant c.loop-i-test.true _ _ c.add_within.ensures _ c.in_ok-n.was c.add_within.auto.rects _ c.next_corner-i-in-loop-i.ensures
 
 pub returns : goal.returns
 returns c = adding_end c.loop-i.invariant c.loop-i-test.false

@@ -6,10 +6,10 @@ use native.Mathlib.Omega.{arith}
 use Rattle.replay.proofs.answer_lent.Goals as goal
 
 pub put_lent-requires : goal.put_lent-requires
-put_lent-requires c = (omega (arith, c.requires), lists_fit _ _ c.lists_in.ensures.lists_within c.in-Lists.is)
+put_lent-requires c = (omega (arith, c.requires), lists_fit _ _ c.lists_in.ensures.lists_within c.in_ok-e.was)
 
-pub returns-in-Lists : goal.returns-in-Lists
-returns-in-Lists c = lent-answered _ _ _ c.lists_in.ensures.s_value c.in-Lists.is c.put_lent.ensures
+pub returns : goal.returns
+returns c = lent-answered _ _ _ c.lists_in.ensures.s_value c.in_ok-e.was c.put_lent.ensures
 
-pub returns-in-NoLists : goal.returns-in-NoLists
-returns-in-NoLists c = (lent_none _ _ _ c.lists_in.ensures.s_value c.in-NoLists.is, refl)
+pub returns-in_err-e : goal.returns-in_err-e
+returns-in_err-e c = rw c.from_residual.ensures (lent_none _ _ _ c.lists_in.ensures.s_value c.in_err-e.was, refl)

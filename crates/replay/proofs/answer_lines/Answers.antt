@@ -19,12 +19,12 @@ pub answer_line-requires : goal.answer_line-requires
 answer_line-requires c = (omega (arith, c.loop-at.invariant.fits), c.loop-at.invariant.texts, c.loop-at.invariant.scratches)
 
 pub loop-at-preserved : goal.loop-at-preserved
-loop-at-preserved c = answering_more c.loop-at.invariant _ _ _ c.answer_line.ensures c.find-end.ensures (omega (arith, c.find-end.ensures.high)) refl c.in-Upto.is
+loop-at-preserved c = answering_more c.loop-at.invariant _ _ _ c.answer_line.ensures c.find-end.ensures (omega (arith, c.find-end.ensures.high)) refl c.in-Some.is
     c.answer_line.auto.text c.answer_line.auto.scratch c.answer_line.auto.out (omega (arith, c.loop-at.invariant.fits))
 
-pub returns-in-NoText : goal.returns-in-NoText
-returns-in-NoText c =
-    let e = answering_stop c.loop-at.invariant _ _ _ c.answer_line.ensures c.find-end.ensures refl c.in-NoText.is in record { replayed = e.0; result_in_bounds = e.1.0; stopped = e.1.1 }
+pub returns-in-None : goal.returns-in-None
+returns-in-None c =
+    let e = answering_stop c.loop-at.invariant _ _ _ c.answer_line.ensures c.find-end.ensures refl c.in-None.is in record { replayed = e.0; result_in_bounds = e.1.0; stopped = e.1.1 }
 
 pub returns : goal.returns
 returns c =

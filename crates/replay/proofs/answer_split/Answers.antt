@@ -8,13 +8,13 @@ use native.Mathlib.Omega.{arith}
 use Rattle.replay.proofs.answer_split.Goals as goal
 
 pub slice_bounds-put_split_line-end : goal.slice_bounds-put_split_line-end
-slice_bounds-put_split_line-end c = omega (arith, within _ _ c.read_text.ensures.text_within c.in-Text.is)
+slice_bounds-put_split_line-end c = omega (arith, within _ _ c.read_text.ensures.text_within c.in_ok-n.was)
 
 pub put_split_line-requires : goal.put_split_line-requires
-put_split_line-requires c = (c.requires.0, text-fits _ _ c.in-Text.is (c.read_text.auto.text ∙ c.requires.1), omega (arith, c.requires.2))
+put_split_line-requires c = (c.requires.0, text-fits _ _ c.in_ok-n.was (c.read_text.auto.text ∙ c.requires.1), omega (arith, c.requires.2))
 
-pub returns-in-Text : goal.returns-in-Text
-returns-in-Text c = answered-text _ _ _ _ c.read_text.ensures.line_value c.requires.1 (split_line text_bytes) c.in-Text.is (split-line _ _ c.requires.2 c.put_split_line.ensures)
+pub returns : goal.returns
+returns c = answered-text _ _ _ _ c.read_text.ensures.line_value c.requires.1 (split_line text_bytes) c.in_ok-n.was (split-line _ _ c.requires.2 c.put_split_line.ensures)
 
-pub returns-in-Malformed : goal.returns-in-Malformed
-returns-in-Malformed c = (answered-none _ _ _ _ c.read_text.ensures.line_value c.requires.1 (split_line text_bytes) c.in-Malformed.is, refl)
+pub returns-in_err-n : goal.returns-in_err-n
+returns-in_err-n c = rw c.from_residual.ensures (answered-none _ _ _ _ c.read_text.ensures.line_value c.requires.1 (split_line text_bytes) c.in_err-n.was, refl)

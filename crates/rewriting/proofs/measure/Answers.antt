@@ -1,5 +1,4 @@
 -- `rewriting::measure` meets its contract.
-use Prim.Native.Nat.{◌-◌}
 use native.Mathlib.Omega.{arith}
 use Rattle.search.proofs.Searching.{found_here}
 use Rattle.rewriting.proofs.Replacing.{measuring_start, measuring_end, measuring_copy, measuring_fits, measuring_hit}

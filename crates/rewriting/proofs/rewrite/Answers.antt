@@ -1,5 +1,4 @@
 -- `rewriting::rewrite` meets its contract.
-use Prim.Native.Nat.{◌-◌}
 use native.Mathlib.Omega.{arith}
 use Rattle.search.proofs.Searching.{found_here}
 use Rattle.rewriting.proofs.Replacing.{rewriting_start, rewriting_end, rewriting_room, rewriting_reach, rewriting_copy, rewriting_inside, rewriting_fits, rewriting_hit}

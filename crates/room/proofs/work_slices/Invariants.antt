@@ -6,6 +6,3 @@ use Rattle.room.proofs.work_slices.Given as goal
 
 abbrev pub invariant-loop-i : goal.invariant-loop-i
 invariant-loop-i l = (l.i ≤ length l.lens) × (room_from 0 l.lens l.sizes ≡ room_from l.i (drop l.i l.lens) (drop l.i l.sizes))
-
-abbrev pub decreases-loop-i : goal.decreases-loop-i
-decreases-loop-i l = length l.lens - l.i

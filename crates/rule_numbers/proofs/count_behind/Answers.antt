@@ -1,11 +1,14 @@
 -- `rule_numbers::count_behind` meets its contract.
+use Rattle.std.proofs.lemmas.Result.{err_from_is_err_and}
 use Rattle.rule_numbers.proofs.count_behind.Goals as goal
 
 pub count_numbers-requires : goal.count_numbers-requires
-count_numbers-requires c = (c.requires, rw c.in-Behind.is at c.place_behind.ensures.inside)
+count_numbers-requires c = (c.requires, c.in_ok-k.ensures.inside)
 
-pub returns-in-Behind : goal.returns-in-Behind
-returns-in-Behind c = let e = rw c.in-Behind.is at c.place_behind.ensures.place in rw (← e) c.count_numbers.ensures
+pub returns : goal.returns
+returns c = rw (← c.in_ok-k.ensures.place) c.count_numbers.ensures
 
-pub returns-in-NoPlace : goal.returns-in-NoPlace
-returns-in-NoPlace c = let e = rw c.in-NoPlace.is at c.place_behind.ensures.place in rw (← e)
+pub returns-in_err-k : goal.returns-in_err-k
+returns-in_err-k c =
+    let p = err_from_is_err_and c.from_residual.result c.from_residual.ensures.1 in
+    rw (p.1, p.2, ← c.in_err-k.ensures.place)

@@ -1,5 +1,7 @@
 -- `rule_numbers::count_numbers` meets its contract.
-use Prim.Native.Nat.{◌-◌}
+use mathlib.Core.Path.{◌∙◌}
+use Rattle.std.proofs.lemmas.Result.{err_from_is_err_and}
+use Rattle.rule_numbers.proofs.LineLaws.{there, missing}
 use Rattle.rule_numbers.proofs.TextLaws.{line_part}
 use Rattle.rule_numbers.proofs.CountLaws.{count-start, count_missing, count_other, count_wrong, count_on, count_end}
 use native.Mathlib.Omega.{arith}
@@ -8,27 +10,31 @@ use Rattle.rule_numbers.proofs.count_numbers.Goals as goal
 pub loop-k-init : goal.loop-k-init
 loop-k-init c = count-start _ _ _ _ _ _ c.requires.1
 
-pub returns-in-Missing : goal.returns-in-Missing
-returns-in-Missing c = count_missing c.loop-k.invariant (omega arith) (rw c.in-Missing.is at c.slot_at.ensures)
+pub returns-in_err-c : goal.returns-in_err-c
+returns-in_err-c c =
+    let p = err_from_is_err_and c.from_residual.result c.from_residual.ensures.1 in
+    let m = missing c.slot_at.result _ c.in_err-c.ensures.value in
+    rw (p.1, p.2, m.1) (count_missing c.loop-k.invariant (omega arith) (m.0 ∙ c.slot_at.ensures))
 
 pub number_in-requires : goal.number_in-requires
 number_in-requires c =
-    line_part c.requires.0 _ _ (omega arith) (rw c.in-Filled.is at c.slot_at.ensures)
+    let e = there c.slot_at.result _ c.in_ok-c.ensures.value ∙ c.slot_at.ensures in
+    line_part c.requires.0 _ _ (omega arith) e
 
-pub returns-in-NoNumber : goal.returns-in-NoNumber
-returns-in-NoNumber c =
-    count_other c.loop-k.invariant (omega arith) _ (rw c.in-Filled.is at c.slot_at.ensures)
-    (rw c.in-NoNumber.is at c.number_in.ensures)
+pub returns-in_default : goal.returns-in_default
+returns-in_default c =
+    let e = there c.slot_at.result _ c.in_ok-c.ensures.value ∙ c.slot_at.ensures in
+    count_other c.loop-k.invariant (omega arith) _ e c.in_default.ensures
 
 pub returns-then-x-m : goal.returns-then-x-m
 returns-then-x-m c =
-    count_wrong c.loop-k.invariant (omega arith) _ (rw c.in-Filled.is at c.slot_at.ensures) _
-    (rw c.in-Number.is at c.number_in.ensures) c.if-x-m.true
+    let e = there c.slot_at.result _ c.in_ok-c.ensures.value ∙ c.slot_at.ensures in
+    count_wrong c.loop-k.invariant (omega arith) _ e _ c.in-Some.ensures c.if-x-m.true
 
 pub loop-k-preserved : goal.loop-k-preserved
 loop-k-preserved c =
-    count_on c.loop-k.invariant (omega arith) _ (rw c.in-Filled.is at c.slot_at.ensures) _
-    (rw c.in-Number.is at c.number_in.ensures) c.if-x-m.false
+    let e = there c.slot_at.result _ c.in_ok-c.ensures.value ∙ c.slot_at.ensures in
+    count_on c.loop-k.invariant (omega arith) _ e _ c.in-Some.ensures c.if-x-m.false
 
 pub returns : goal.returns
 returns c = count_end c.loop-k.invariant c.loop-k-test.false

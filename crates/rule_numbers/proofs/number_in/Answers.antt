@@ -5,13 +5,11 @@ use Rattle.rule_numbers.proofs.TextLaws.{part_room, part_text}
 use Rattle.rule_numbers.proofs.number_in.Goals as goal
 
 pub text_at-requires : goal.text_at-requires
-text_at-requires c =
-    part_room c.args.c (rw c.in-Number.is at c.region_of.ensures) c.requires
+text_at-requires c = part_room c.args.c c.in_ok-k.ensures c.requires
 
-pub returns-in-Number : goal.returns-in-Number
-returns-in-Number c =
-    let e = rw c.in-Number.is at c.region_of.ensures in
-    rw (← e) (c.rule_number.ensures ∙ ap number_of (c.text_at.ensures ∙ part_text c.args.c e c.requires))
+pub returns : goal.returns
+returns c =
+    rw (← c.in_ok-k.ensures) (c.rule_number.ensures ∙ ap number_of (c.text_at.ensures ∙ part_text c.args.c c.in_ok-k.ensures c.requires))
 
-pub returns-in-NoRegion : goal.returns-in-NoRegion
-returns-in-NoRegion c = let e = rw c.in-NoRegion.is at c.region_of.ensures in rw (← e)
+pub returns-in_err-k : goal.returns-in_err-k
+returns-in_err-k c = rw (c.from_residual.ensures, ← c.in_err-k.ensures)

@@ -1,6 +1,7 @@
 -- `rule_numbers::numbers_right` meets its contract.
 use Prim.Native.Nat.{◌-◌}
 use borrow.Author.Tests.{lt-ltb, le-ltb}
+use Rattle.std.proofs.lemmas.Result.{err_from_is_err_and}
 use Rattle.rule_numbers.proofs.TextLaws.{held-row}
 use Rattle.rule_numbers.proofs.NumbersLaws.{right-told, right-refused}
 use native.Mathlib.Omega.{arith}
@@ -14,12 +15,13 @@ count_behind-requires c = held-row c.requires.0 (c.args.n - 1) (omega arith)
 
 pub returns-then-m-gt0 : goal.returns-then-m-gt0
 returns-then-m-gt0 c =
-    rw (lt-ltb 0 c.in-Upto.m c.if-m-gt0.true) at (right-told _ _ _ c.requires.1 _ (rw c.in-Upto.is at c.count_behind.ensures))
+    rw (lt-ltb 0 c.in_ok-m.m c.if-m-gt0.true) at (right-told _ _ _ c.requires.1 _ c.in_ok-m.ensures)
 
-pub returns-else-m-gt0 : goal.returns-else-m-gt0
-returns-else-m-gt0 c =
-    rw (le-ltb 0 c.in-Upto.m c.if-m-gt0.false) at (right-told _ _ _ c.requires.1 _ (rw c.in-Upto.is at c.count_behind.ensures))
+pub returns : goal.returns
+returns c =
+    rw (le-ltb 0 c.in_ok-m.m c.if-m-gt0.false) at (right-told _ _ _ c.requires.1 _ c.in_ok-m.ensures)
 
-pub returns-in-NotCounted : goal.returns-in-NotCounted
-returns-in-NotCounted c =
-    right-refused _ _ _ c.requires.1 _ (rw c.in-NotCounted.is at c.count_behind.ensures)
+pub returns-in_err-m : goal.returns-in_err-m
+returns-in_err-m c =
+    let p = err_from_is_err_and c.from_residual.result c.from_residual.ensures.1 in
+    rw (p.1, p.2) (right-refused _ _ _ c.requires.1 _ c.in_err-m.ensures)

@@ -1,6 +1,7 @@
 -- `rule_numbers::place_behind` meets its contract.
 use mathlib.Core.Path.{sym, ◌∙◌}
-use Prim.Native.Nat.{◌-◌}
+use Rattle.std.proofs.lemmas.Result.{err_from_is_err_and}
+use Rattle.rule_numbers.proofs.LineLaws.{there, missing}
 use Rattle.rule_numbers.proofs.PlaceLaws.{look_start, look_missing, look_found, look_on, look_end}
 use native.Mathlib.Omega.{arith}
 use borrow.Author.Rules.{rules}
@@ -9,16 +10,21 @@ use Rattle.rule_numbers.proofs.place_behind.Goals as goal
 pub loop-k-init : goal.loop-k-init
 loop-k-init c = look_start _ _ _ _ _
 
-pub returns-in-Missing : goal.returns-in-Missing
-returns-in-Missing c = record { place = look_missing c.loop-k.invariant (omega arith) (rw c.in-Missing.is at c.slot_at.ensures); inside = search rules }
+pub returns-in_err-c : goal.returns-in_err-c
+returns-in_err-c c =
+    let p = err_from_is_err_and c.from_residual.result c.from_residual.ensures.1 in
+    let m = missing c.slot_at.result _ c.in_err-c.ensures.value in
+    rw (p.1, p.2, m.1) (record { place = look_missing c.loop-k.invariant (omega arith) (m.0 ∙ c.slot_at.ensures); inside = tt })
 
-pub returns-then-same_kind : goal.returns-then-same_kind
-returns-then-same_kind c =
-    record { place = look_found c.loop-k.invariant (omega arith) _ (rw c.in-Filled.is at c.slot_at.ensures) (sym c.same_kind.ensures ∙ c.if-same_kind.true); inside = omega arith }
+pub returns-then-is_same_kind : goal.returns-then-is_same_kind
+returns-then-is_same_kind c =
+    let e = there c.slot_at.result _ c.in_ok-c.ensures.value ∙ c.slot_at.ensures in
+    record { place = look_found c.loop-k.invariant (omega arith) _ e (sym c.if-is_same_kind.ensures); inside = omega arith }
 
 pub loop-k-preserved : goal.loop-k-preserved
 loop-k-preserved c =
-    look_on c.loop-k.invariant (omega arith) _ (rw c.in-Filled.is at c.slot_at.ensures) (sym c.same_kind.ensures ∙ c.if-same_kind.false)
+    let e = there c.slot_at.result _ c.in_ok-c.ensures.value ∙ c.slot_at.ensures in
+    look_on c.loop-k.invariant (omega arith) _ e (sym c.if-is_same_kind.ensures)
 
 pub returns : goal.returns
 returns c = record { place = look_end c.loop-k.invariant c.loop-k-test.false; inside = search rules }

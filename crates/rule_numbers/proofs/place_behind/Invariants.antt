@@ -4,6 +4,3 @@ use Rattle.rule_numbers.proofs.place_behind.Given as goal
 
 abbrev pub invariant-loop-k : goal.invariant-loop-k
 invariant-loop-k l = Looked l.plane l.down l.row l.n l.kind l.k
-
-abbrev pub decreases-loop-k : goal.decreases-loop-k
-decreases-loop-k l = l.n - l.k

@@ -1,5 +1,4 @@
 -- `scan::put_codes` meets its contract.
-use Prim.Native.Nat.{◌-◌}
 use native.Mathlib.Omega.{arith}
 use Rattle.scan.proofs.RowPutting.{putting_start, putting_stands, putting_fits, putting_more, putting_done}
 use Rattle.scan.proofs.put_codes.Goals as goal

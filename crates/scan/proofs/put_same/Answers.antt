@@ -1,5 +1,4 @@
 -- `scan::put_same` meets its contract.
-use Prim.Native.Nat.{◌-◌}
 use Rattle.scan.proofs.RowPutting.{filling_start, filling_more, filling_done}
 use Rattle.scan.proofs.put_same.Goals as goal
 

@@ -7,6 +7,3 @@ use Rattle.scan.proofs.write_rows.Given as goal
 abbrev pub invariant-loop-r : goal.invariant-loop-r
 invariant-loop-r l =
     Writing (λ t. t) (rows_in l.s l.lines l.rows) l.width l.initial.text l.text l.r × Writing blank (rows_in l.s l.lines l.rows) l.width l.initial.body l.body l.r
-
-abbrev pub decreases-loop-r : goal.decreases-loop-r
-decreases-loop-r l = l.rows - l.r

@@ -1,6 +1,5 @@
 -- `search::periods_of` meets its contract.
 use mathlib.Core.Path.{refl, ◌∙◌}
-use Prim.Native.Nat.{◌-◌}
 use native.Mathlib.Omega.{arith}
 use Rattle.search.proofs.Building.{building_start, building_room, building_more, building_end, building_safe, building_fits, building_shift, building_less, building_place, building_rises, building_last, building_add}
 use Rattle.search.proofs.periods_of.Goals as goal

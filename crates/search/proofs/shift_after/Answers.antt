@@ -1,5 +1,4 @@
 -- `search::shift_after` meets its contract.
-use Prim.Native.Nat.{◌-◌}
 use Rattle.search.proofs.Shifting.{shifting_start, shifting_end, shifting_more, shifting_fits, shifting_found}
 use Rattle.search.proofs.shift_after.Goals as goal
 

@@ -5,6 +5,3 @@ use Rattle.sketch.proofs.put_layer.Given as goal
 
 abbrev pub invariant-loop-y : goal.invariant-loop-y
 invariant-loop-y l = Layering l.initial.out l.initial.n (canvas l.w l.h l.layer) l.w l.h l.out l.n l.y
-
-abbrev pub decreases-loop-y : goal.decreases-loop-y
-decreases-loop-y l = l.h - l.y

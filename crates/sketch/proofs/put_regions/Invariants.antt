@@ -4,6 +4,3 @@ use Rattle.sketch.proofs.put_regions.Given as goal
 
 abbrev pub invariant-loop-k : goal.invariant-loop-k
 invariant-loop-k l = Listing l.initial.out l.initial.m l.rects l.bytes l.spans l.n l.out l.m l.k
-
-abbrev pub decreases-loop-k : goal.decreases-loop-k
-decreases-loop-k l = l.n - l.k

@@ -5,6 +5,3 @@ use Rattle.sketch.proofs.put_row.Given as goal
 
 abbrev pub invariant-loop-x : goal.invariant-loop-x
 invariant-loop-x l = Rowing l.initial.out l.at (canvas l.w l.h l.layer) l.w l.y l.out l.n l.x
-
-abbrev pub decreases-loop-x : goal.decreases-loop-x
-decreases-loop-x l = l.w - l.x

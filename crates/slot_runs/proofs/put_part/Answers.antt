@@ -1,6 +1,6 @@
 -- `slot_runs::put_part` meets its contract.
+use Rattle.std.specs.Prelude.{Some}
 use mathlib.Core.Path.{refl}
-use mathlib.Core.Option.{some}
 use native.Mathlib.Omega.{arith}
 use Rattle.slot_runs.specs.Spelt.{part_of}
 use Rattle.slot_runs.proofs.SpeltLaws.{part_length, spelt_one}
@@ -11,4 +11,4 @@ returns c =
     λ bytes i.
     let p = c.args.p in
     let l = part_length bytes p i in
-    spelt_one (some (part_of bytes p)) c.put_slot.ensures refl refl (omega arith) i.inside (omega (arith, i.inside, i.few))
+    spelt_one (Some (part_of bytes p)) c.put_slot.ensures refl refl (omega arith) i.inside (omega (arith, i.inside, i.few))

@@ -1,6 +1,6 @@
 -- `slot_runs::put_rewritten` meets its contract.
+use Rattle.std.specs.Prelude.{Some}
 use mathlib.Core.Path.{refl, ap}
-use mathlib.Core.Option.{some}
 use Prim.Native.Nat.{ℕ, ◌+◌}
 use native.Mathlib.Omega.{arith}
 use Rattle.values.specs.Values.{values_of}
@@ -11,5 +11,5 @@ use Rattle.slot_runs.proofs.put_rewritten.Goals as goal
 pub returns : goal.returns
 returns c =
     λ bytes i e.
-    spelt_one (some (values_of (part_of bytes c.args.p)).allowed) c.put_slot.ensures refl refl
+    spelt_one (Some (values_of (part_of bytes c.args.p)).allowed) c.put_slot.ensures refl refl
     (ap (λ (n : ℕ). c.args.from.bytes + n) e) i.inside (omega (arith, e, c.requires.1))

@@ -1,6 +1,6 @@
 -- `slot_runs::put_row` meets its contract.
+use Rattle.std.specs.Prelude.{Some}
 use mathlib.Core.Path.{refl, ap}
-use mathlib.Core.Option.{some}
 use Prim.Native.Nat.{◌-◌}
 use native.Mathlib.Omega.{arith}
 use Rattle.lists.specs.Run.{run}
@@ -23,7 +23,7 @@ put_part-r-requires c = turning_room c.loop-i.invariant c.loop-i-test.true
 pub loop-i-preserved : goal.loop-i-preserved
 loop-i-preserved c =
     let p = c.part_at-p.ensures in
-    let w = spelt_text (c.put_part-r.ensures c.args.bytes.now p.inside) (ap some p.text) in
+    let w = spelt_text (c.put_part-r.ensures c.args.bytes.now p.inside) (ap Some p.text) in
     turning_more c.loop-i.invariant c.loop-i-test.true w refl (run_more _ _ _)
     c.put_part-r.auto.slots
 

@@ -10,6 +10,3 @@ invariant-loop-i l =
     Turning l.bytes l.initial.slots (record { slot = l.initial.slot; bytes = l.initial.used })
     (row_texts (text_in l.bytes l.spans l.count) (plane_in l.plane l.rows) l.y l.x) 1 l.n l.slots
     (record { slot = l.slot; bytes = l.used }) l.i
-
-abbrev pub decreases-loop-i : goal.decreases-loop-i
-decreases-loop-i l = l.n - l.i

@@ -1,7 +1,7 @@
 -- `slot_runs::put_values` meets its contract.
+use Rattle.std.specs.Prelude.{Some}
 use mathlib.Core.Path.{refl}
 use mathlib.Core.List.{[], ◌∷◌}
-use mathlib.Core.Option.{some}
 use Prim.Native.Nat.{◌+◌, ◌≤◌}
 use native.Mathlib.Omega.{arith}
 use Rattle.model.specs.Limits.{text_bytes}
@@ -10,22 +10,22 @@ use Rattle.slot_runs.specs.Spelt.{part_of, Spelt}
 use Rattle.slot_runs.proofs.ValueTexts.{MarkedIn, values-none, values-plain, marked_in, default_in, values-marked}
 use Rattle.slot_runs.proofs.SpeltLaws.{spelt_then, spelt_as, room_next, room_less}
 use Rattle.slot_runs.proofs.put_values.Goals as goal
-use Rattle.slot_runs.proofs.put_values.Goals.{After-put_rewritten-r, In-Marked}
+use Rattle.slot_runs.proofs.put_values.Goals.{After-put_rewritten-r, In-Some}
 
 -- the default is measured
-marked : (c : In-Marked)
-    → MarkedIn c.args.bytes.now c.args.p c.in-Marked.n c.in-Marked.a c.in-Marked.b
+marked : (c : In-Some)
+    → MarkedIn c.args.bytes.now c.args.p c.in-Some.m.bytes c.in-Some.m.from c.in-Some.m.to
 marked c =
-    marked_in c.args.bytes.now c.args.p c.requires.1 _ _ _ (rw c.in-Marked.is at c.measure_values.ensures)
+    marked_in c.args.bytes.now c.args.p c.requires.1 _ (rw c.in-Some.is at c.measure_values.ensures)
 
 -- the rewritten values are written
 rewritten : (c : After-put_rewritten-r) → Spelt c.args.bytes.now c.args.slots.now c.put_rewritten-r.new.slots c.args.from c.put_rewritten-r.result
-    (some (values_of (part_of c.args.bytes.now c.args.p)).allowed ∷ [])
-rewritten c = c.put_rewritten-r.ensures c.args.bytes.now c.requires.1 (marked_in c.args.bytes.now c.args.p c.requires.1 _ _ _ (rw c.in-Marked.is at c.measure_values.ensures)).size
+    (Some (values_of (part_of c.args.bytes.now c.args.p)).allowed ∷ [])
+rewritten c = c.put_rewritten-r.ensures c.args.bytes.now c.requires.1 (marked_in c.args.bytes.now c.args.p c.requires.1 _ (rw c.in-Some.is at c.measure_values.ensures)).size
 
 -- where the default lies
-placed : (c : In-Marked) → let a = c.args in
-    (a.p.offset + c.in-Marked.b ≤ text_bytes) × (c.in-Marked.a ≤ c.in-Marked.b)
+placed : (c : In-Some) → let a = c.args in
+    (a.p.offset + c.in-Some.m.to ≤ text_bytes) × (c.in-Some.m.from ≤ c.in-Some.m.to)
 placed c = let m = marked c in let i = c.requires.1 in (omega (arith, m.ends, i.inside, i.few), m.ordered)
 
 pub returns-then-p-eq0 : goal.returns-then-p-eq0
@@ -36,31 +36,31 @@ put_absent-requires c =
     room_next c.requires.0 (c.put_part-a.ensures c.args.bytes.now c.requires.1) refl (omega arith) c.put_part-a.auto.slots
 
 pub put_rewritten-r-requires : goal.put_rewritten-r-requires
-put_rewritten-r-requires c = (room_less c.requires.0 (omega arith), (marked (goal.at.put_rewritten-r-requires c).In-Marked).few)
+put_rewritten-r-requires c = (room_less c.requires.0 (omega arith), (marked (goal.at.put_rewritten-r-requires c).In-Some).few)
 
 pub overflow_add-start : goal.overflow_add-start
-overflow_add-start c = omega (arith, placed (goal.at.overflow_add-start c).In-Marked)
+overflow_add-start c = omega (arith, placed (goal.at.overflow_add-start c).In-Some)
 
-pub overflow_cast-start-in-Marked : goal.overflow_cast-start-in-Marked
-overflow_cast-start-in-Marked c = omega (arith, placed (goal.at.overflow_cast-start-in-Marked c).In-Marked)
+pub overflow_cast-start-in-Some : goal.overflow_cast-start-in-Some
+overflow_cast-start-in-Some c = omega (arith, placed (goal.at.overflow_cast-start-in-Some c).In-Some)
 
-pub overflow_sub-b : goal.overflow_sub-b
-overflow_sub-b c = (placed (goal.at.overflow_sub-b c).In-Marked).1
+pub overflow_sub-m : goal.overflow_sub-m
+overflow_sub-m c = (placed (goal.at.overflow_sub-m c).In-Some).1
 
-pub overflow_cast-b : goal.overflow_cast-b
-overflow_cast-b c = omega (arith, placed (goal.at.overflow_cast-b c).In-Marked)
+pub overflow_cast-m : goal.overflow_cast-m
+overflow_cast-m c = omega (arith, placed (goal.at.overflow_cast-m c).In-Some)
 
 pub put_part-requires : goal.put_part-requires
 put_part-requires c = room_next c.requires.0 (rewritten (goal.at.put_part-requires c).After-put_rewritten-r) refl (omega arith) c.put_rewritten-r.auto.slots
 
-pub returns-in-Plain : goal.returns-in-Plain
-returns-in-Plain c =
+pub returns-in-None : goal.returns-in-None
+returns-in-None c =
     let b = c.args.bytes.now in
-    let v = values-plain b c.args.p c.requires.1 (omega (arith, c.if-p-eq0.false)) (rw c.in-Plain.is at c.measure_values.ensures) in
+    let v = values-plain b c.args.p c.requires.1 (omega (arith, c.if-p-eq0.false)) (rw c.in-None.is at c.measure_values.ensures) in
     spelt_as (spelt_then (c.put_part-a.ensures b c.requires.1) (c.put_absent.ensures b)) v
 
-pub returns-in-Marked : goal.returns-in-Marked
-returns-in-Marked c =
+pub returns-in-Some : goal.returns-in-Some
+returns-in-Some c =
     let b = c.args.bytes.now in
-    let v = values-marked b c.args.p c.requires.1 (omega (arith, c.if-p-eq0.false)) (marked (goal.at.returns-in-Marked c).In-Marked) in
-    spelt_as (spelt_then (rewritten (goal.at.returns-in-Marked c).After-put_rewritten-r) (c.put_part.ensures b (default_in b c.args.p c.requires.1 (marked (goal.at.returns-in-Marked c).In-Marked)))) v
+    let v = values-marked b c.args.p c.requires.1 (omega (arith, c.if-p-eq0.false)) (marked (goal.at.returns-in-Some c).In-Some) in
+    spelt_as (spelt_then (rewritten (goal.at.returns-in-Some c).After-put_rewritten-r) (c.put_part.ensures b (default_in b c.args.p c.requires.1 (marked (goal.at.returns-in-Some c).In-Some)))) v

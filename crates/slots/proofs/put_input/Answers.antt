@@ -1,7 +1,7 @@
 -- `slots::put_input` meets its contract.
+use Rattle.std.specs.Prelude.{None, Some}
 use mathlib.Core.Path.{refl, sym, ap}
 use mathlib.Core.List.{[], ◌∷◌}
-use mathlib.Core.Option.{none, some}
 use native.Mathlib.Omega.{arith}
 use Rattle.lists.proofs.Tests.{choose_off}
 use Rattle.cells.specs.Plane.{plane_in}
@@ -18,7 +18,7 @@ written : (c : After-put_part-a) → let a = c.args in
     (whole (text_in a.bytes.now a.spans.now a.count) (plane_in a.plane.now a.rows) 0 a.i ∷ [])
 written c =
     let p = c.part_at-p.ensures in
-    spelt_text (c.put_part-a.ensures c.args.bytes.now p.inside) (ap some p.text)
+    spelt_text (c.put_part-a.ensures c.args.bytes.now p.inside) (ap Some p.text)
 
 room-behind : (c : After-put_part-a) → Room c.put_part-a.result 1 c.put_part-a.new.slots
 room-behind c = room_next c.requires.1 (written c) refl (omega arith) c.put_part-a.auto.slots
@@ -30,7 +30,7 @@ pub returns-then-s : goal.returns-then-s
 returns-then-s c =
     let v = c.part_at-v.ensures in
     let e = rw c.above.ensures at v.text in
-    spelt_then (written (goal.at.returns-then-s c).After-put_part-a) (spelt_text (c.put_optional.ensures c.args.bytes.now v.inside) (optional_on none e c.if-s.true))
+    spelt_then (written (goal.at.returns-then-s c).After-put_part-a) (spelt_text (c.put_optional.ensures c.args.bytes.now v.inside) (optional_on None e c.if-s.true))
 
 pub put_absent-requires : goal.put_absent-requires
 put_absent-requires c = room-behind (goal.at.put_absent-requires c).After-put_part-a

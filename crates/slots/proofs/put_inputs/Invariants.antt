@@ -10,6 +10,3 @@ invariant-loop-i l =
     Turning l.bytes l.initial.slots (record { slot = l.initial.slot; bytes = l.initial.used })
     (join_run (input_text (text_in l.bytes l.spans l.count) (plane_in l.plane l.rows) l.s) 0) 2 l.s.inputs l.slots
     (record { slot = l.slot; bytes = l.used }) l.i
-
-abbrev pub decreases-loop-i : goal.decreases-loop-i
-decreases-loop-i l = l.s.inputs - l.i

@@ -1,6 +1,6 @@
 -- `slots::put_output` meets its contract.
+use Rattle.std.specs.Prelude.{None}
 use mathlib.Core.Path.{refl, sym, ap}
-use mathlib.Core.Option.{none}
 use native.Mathlib.Omega.{arith}
 use Rattle.lists.proofs.Tests.{choose_off}
 use Rattle.slot_runs.specs.Spelt.{Room}
@@ -20,7 +20,7 @@ pub returns-then-l : goal.returns-then-l
 returns-then-l c =
     let e = rw c.above.ensures at c.part_at-p.ensures.text in
     spelt_then c.put_name-a.ensures
-    (spelt_as c.put_values.ensures (ap value_texts (optional_on none e c.if-l.true)))
+    (spelt_as c.put_values.ensures (ap value_texts (optional_on None e c.if-l.true)))
 
 pub put_no_values-requires : goal.put_no_values-requires
 put_no_values-requires c = room-behind (goal.at.put_no_values-requires c).After-put_name-a
@@ -28,4 +28,4 @@ put_no_values-requires c = room-behind (goal.at.put_no_values-requires c).After-
 pub returns : goal.returns
 returns c =
     spelt_then c.put_name-a.ensures
-    (spelt_as (c.put_no_values.ensures c.args.bytes.now) (ap value_texts (sym (choose_off _ _ none c.if-l.false))))
+    (spelt_as (c.put_no_values.ensures c.args.bytes.now) (ap value_texts (sym (choose_off _ _ None c.if-l.false))))

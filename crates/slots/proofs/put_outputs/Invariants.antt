@@ -10,6 +10,3 @@ invariant-loop-j l =
     Turning l.bytes l.initial.slots (record { slot = l.initial.slot; bytes = l.initial.used })
     (join_run (output_text (text_in l.bytes l.spans l.count) (plane_in l.plane l.rows) l.s) 0) 3 l.s.outputs l.slots
     (record { slot = l.slot; bytes = l.used }) l.j
-
-abbrev pub decreases-loop-j : goal.decreases-loop-j
-decreases-loop-j l = l.s.outputs - l.j

@@ -12,6 +12,3 @@ invariant-loop-i l =
     Turning l.bytes l.initial.slots (record { slot = l.initial.slot; bytes = l.initial.used })
     (join_run (entry_texts (text_in l.bytes l.spans l.count) (plane_in l.plane l.rows) l.s) 0) (for_rule l.s) l.rules l.slots
     (record { slot = l.slot; bytes = l.used }) l.i
-
-abbrev pub decreases-loop-i : goal.decreases-loop-i
-decreases-loop-i l = l.rules - l.i

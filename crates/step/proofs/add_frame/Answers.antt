@@ -1,9 +1,9 @@
 -- `step::add_frame` meets its contract.
+use Rattle.std.specs.Prelude.{Err}
 use mathlib.Core.Path.{ap, ◌∙◌}
 use Prim.Native.Nat.{◌+◌, ◌*◌, ◌<◌}
 use native.Mathlib.Omega.{arith}
 use lib.ListN.{length}
-use Rattle.lists.specs.Answer.{refused}
 use Rattle.lists.specs.Picture.{canvas}
 use Rattle.lists.proofs.PictureLaws.{place-fits}
 use Rattle.cells.proofs.PlaneLaws.{kept_refl}
@@ -51,7 +51,7 @@ pub returns : goal.returns
 returns c =
     let a = c.args in record {
       made = λ rs n m.
-          ap refused c.why_none.ensures
+          ap Err c.why_none.ensures
           ∙ no_region_lem a.o (frame_of grid (canvas c.args.w c.args.h c.args.layer.now) c.args.w c.args.h) rs a.row a.y a.x (row_of c.args.s c.args.plane.now c.args.row) _ (number_at (frame_of grid (canvas c.args.w c.args.h c.args.layer.now) c.args.w c.args.h) rs a.w a.h a.layer.now a.found.now a.x a.y c.requires.1 c.requires.2 c.requires.5 m) (omega (arith, n, c.if-k-count.false));
       fits = tt;
       before = kept_refl a.plane.now a.row;

@@ -1,4 +1,6 @@
 -- `step::add_frames` meets its contract.
+use Rattle.std.proofs.lemmas.Result.{err_from_is_err_and}
+use Rattle.std.specs.Prelude.{Ok}
 use mathlib.Core.Path.{◌≡◌, subst}
 use native.Mathlib.Omega.{arith}
 use Rattle.lists.specs.Picture.{canvas}
@@ -6,16 +8,15 @@ use Rattle.cells.proofs.PlaneLaws.{kept-fits}
 use Rattle.walks.specs.Frame.{frame_of}
 use Rattle.walks.specs.Kinds.{grid}
 use Rattle.plane_cells.specs.Made.{RowFit, RowFits}
-use Rattle.plane_cells.specs.declared.RowMade.{RowMade}
-use Rattle.plane_cells.specs.declared.RowMade.TheVariants.{Cells}
 use Rattle.plane_cells.specs.declared.RowSofar.{RowSofar}
 use Rattle.step.proofs.FramesLaws.{frames_out, no_frames, frames_added}
 use Rattle.step.proofs.add_frames.Goals as goal
 use Rattle.step.proofs.add_frames.Goals.{After-make_row}
+use Rattle.model.specs.Refusals.{Reading}
 
 -- the row's cells fit
-fits : (m : After-make_row) {t : RowSofar} → m.make_row.result ≡ Cells t → RowFit t m.args.s.rows
-fits m z = subst (λ (r : RowMade). RowFits r m.args.s.rows) z m.make_row.ensures.fits
+fits : (m : After-make_row) {t : RowSofar} → m.make_row.result ≡ Ok t → RowFit t m.args.s.rows
+fits m z = subst (λ (r : Reading RowSofar). RowFits r m.args.s.rows) z m.make_row.ensures.fits
 
 pub make_row-requires : goal.make_row-requires
 make_row-requires c =
@@ -24,22 +25,23 @@ make_row-requires c =
 pub returns-then-n-eq0 : goal.returns-then-n-eq0
 returns-then-n-eq0 c =
     let a = c.args in
-    let k = c.make_row.ensures.before in record { made = λ rs n q. no_frames a.o (frame_of grid ((canvas c.args.w c.args.h c.args.layer.now)) c.args.w c.args.h) rs (canvas c.args.w c.args.h c.args.layer.now) a.w a.y a.s a.plane.now _ _ (c.make_row.ensures.made rs n q) _ c.in-Cells.is c.requires.2 k c.if-n-eq0.true; fits = record { plane = kept-fits a.plane.now _ a.s.rows k c.make_row.auto.plane c.requires.2.plane; width = c.requires.2.width } }
+    let k = c.make_row.ensures.before in record { made = λ rs n q. no_frames a.o (frame_of grid ((canvas c.args.w c.args.h c.args.layer.now)) c.args.w c.args.h) rs (canvas c.args.w c.args.h c.args.layer.now) a.w a.y a.s a.plane.now _ _ (c.make_row.ensures.made rs n q) _ c.in_ok-t.was c.requires.2 k c.if-n-eq0.true; fits = record { plane = kept-fits a.plane.now _ a.s.rows k c.make_row.auto.plane c.requires.2.plane; width = c.requires.2.width } }
 
 pub end_row-requires : goal.end_row-requires
 end_row-requires c =
     let a = c.args in
-    let f = fits (goal.at.end_row-requires c).After-make_row c.in-Cells.is in (
+    let f = fits (goal.at.end_row-requires c).After-make_row c.in_ok-t.was in (
       kept-fits a.plane.now _ a.s.rows c.make_row.ensures.before c.make_row.auto.plane c.requires.2.plane,
       f.low (omega (arith, c.if-n-eq0.false)),
       f.few,
     )
 
-pub returns-else-n-eq0 : goal.returns-else-n-eq0
-returns-else-n-eq0 c =
-    let a = c.args in record { made = λ rs n q. frames_added a.o (frame_of grid ((canvas c.args.w c.args.h c.args.layer.now)) c.args.w c.args.h) rs (canvas c.args.w c.args.h c.args.layer.now) a.w a.y a.s a.plane.now _ _ (c.make_row.ensures.made rs n q) _ c.in-Cells.is c.requires.2 c.make_row.ensures.before c.if-n-eq0.false _ c.end_row.ensures.rows; fits = record { plane = c.end_row.ensures.fits; width = (fits (goal.at.returns-else-n-eq0 c).After-make_row c.in-Cells.is).few } }
+pub returns : goal.returns
+returns c =
+    let a = c.args in record { made = λ rs n q. frames_added a.o (frame_of grid ((canvas c.args.w c.args.h c.args.layer.now)) c.args.w c.args.h) rs (canvas c.args.w c.args.h c.args.layer.now) a.w a.y a.s a.plane.now _ _ (c.make_row.ensures.made rs n q) _ c.in_ok-t.was c.requires.2 c.make_row.ensures.before c.if-n-eq0.false _ c.end_row.ensures.rows; fits = record { plane = c.end_row.ensures.fits; width = (fits (goal.at.returns c).After-make_row c.in_ok-t.was).few } }
 
-pub returns-in-NoCells : goal.returns-in-NoCells
-returns-in-NoCells c =
+pub returns-in_err-t : goal.returns-in_err-t
+returns-in_err-t c =
+    let p = err_from_is_err_and c.from_residual.result c.from_residual.ensures.1 in
     let a = c.args in
-    record { made = λ rs n q. frames_out a.o (frame_of grid ((canvas c.args.w c.args.h c.args.layer.now)) c.args.w c.args.h) rs (canvas c.args.w c.args.h c.args.layer.now) a.w a.y a.s a.plane.now _ _ (c.make_row.ensures.made rs n q) _ c.in-NoCells.is; fits = tt }
+    rw (p.1, p.2) (record { made = λ rs n q. frames_out a.o (frame_of grid ((canvas c.args.w c.args.h c.args.layer.now)) c.args.w c.args.h) rs (canvas c.args.w c.args.h c.args.layer.now) a.w a.y a.s a.plane.now _ _ (c.make_row.ensures.made rs n q) _ c.in_err-t.was; fits = tt })

@@ -1,4 +1,5 @@
 -- `step::add_grid_row` meets its contract.
+use Rattle.std.proofs.lemmas.Result.{err_from_is_err_and}
 use mathlib.Core.Path.{◌∙◌}
 use Rattle.lists.specs.Picture.{canvas}
 use Rattle.walks.specs.Frame.{frame_of}
@@ -9,27 +10,29 @@ use Rattle.step.proofs.add_grid_row.Goals as goal
 pub add_line_row-requires : goal.add_line_row-requires
 add_line_row-requires c = c.requires.2
 
-pub returns-in-NoRows : goal.returns-in-NoRows
-returns-in-NoRows c =
+pub returns-in_err-a : goal.returns-in_err-a
+returns-in_err-a c =
+    let p = err_from_is_err_and c.from_residual.result c.from_residual.ensures.1 in
     let a = c.args in
-    record { made = λ rs n m. main_out a.o (frame_of grid ((canvas c.args.w c.args.h c.args.layer.now)) c.args.w c.args.h) rs (canvas c.args.w c.args.h c.args.layer.now) a.w a.y a.s a.plane.now _ _ c.add_line_row.ensures.made _ c.in-NoRows.is; fits = tt }
+    rw (p.1, p.2) (record { made = λ rs n m. main_out a.o (frame_of grid ((canvas c.args.w c.args.h c.args.layer.now)) c.args.w c.args.h) rs (canvas c.args.w c.args.h c.args.layer.now) a.w a.y a.s a.plane.now _ _ c.add_line_row.ensures.made _ c.in_err-a.was; fits = tt })
 
 pub add_line_row-requires-2 : goal.add_line_row-requires-2
-add_line_row-requires-2 c = rows_fit c.in-Sofar.is c.add_line_row.ensures.fits
+add_line_row-requires-2 c = rows_fit c.in_ok-a.was c.add_line_row.ensures.fits
 
-pub returns-in-NoRows-add_line_row : goal.returns-in-NoRows-add_line_row
-returns-in-NoRows-add_line_row c =
+pub returns-in_err-b : goal.returns-in_err-b
+returns-in_err-b c =
+    let p = err_from_is_err_and c.from_residual-in_err-b.result c.from_residual-in_err-b.ensures.1 in
     let a = c.args in
-    record { made = λ rs n m. below_out a.o (frame_of grid ((canvas c.args.w c.args.h c.args.layer.now)) c.args.w c.args.h) rs (canvas c.args.w c.args.h c.args.layer.now) a.w a.y a.s a.plane.now _ _ c.add_line_row.ensures.made _ c.in-Sofar.is _ c.is_at.ensures _ _ c.add_line_row-2.ensures.made _ c.in-NoRows-add_line_row.is; fits = tt }
+    rw (p.1, p.2) (record { made = λ rs n m. below_out a.o (frame_of grid ((canvas c.args.w c.args.h c.args.layer.now)) c.args.w c.args.h) rs (canvas c.args.w c.args.h c.args.layer.now) a.w a.y a.s a.plane.now _ _ c.add_line_row.ensures.made _ c.in_ok-a.was _ c.is_at.ensures _ _ c.add_line_row-2.ensures.made _ c.in_err-b.was; fits = tt })
 
 pub add_frames-requires : goal.add_frames-requires
 add_frames-requires c =
-    (c.requires.0, c.requires.1, rows_fit c.in-Sofar-add_line_row.is c.add_line_row-2.ensures.fits)
+    (c.requires.0, c.requires.1, rows_fit c.in_ok-b.was c.add_line_row-2.ensures.fits)
 
 pub returns : goal.returns
 returns c =
     let a = c.args in record {
       made = λ rs n m. c.add_frames.ensures.made rs n m
-          ∙ lines_added a.o (frame_of grid ((canvas c.args.w c.args.h c.args.layer.now)) c.args.w c.args.h) rs (canvas c.args.w c.args.h c.args.layer.now) a.w a.y a.s a.plane.now _ _ c.add_line_row.ensures.made _ c.in-Sofar.is _ c.is_at.ensures _ _ c.add_line_row-2.ensures.made _ c.in-Sofar-add_line_row.is;
+          ∙ lines_added a.o (frame_of grid ((canvas c.args.w c.args.h c.args.layer.now)) c.args.w c.args.h) rs (canvas c.args.w c.args.h c.args.layer.now) a.w a.y a.s a.plane.now _ _ c.add_line_row.ensures.made _ c.in_ok-a.was _ c.is_at.ensures _ _ c.add_line_row-2.ensures.made _ c.in_ok-b.was;
       fits = c.add_frames.ensures.fits;
     }

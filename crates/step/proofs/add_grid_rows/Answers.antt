@@ -1,4 +1,5 @@
 -- `step::add_grid_rows` meets its contract.
+use Rattle.std.proofs.lemmas.Result.{err_from_is_err_and}
 use Rattle.step.proofs.RowsLaws.{growing_start, growing_more, growing_out, growing_end}
 use Rattle.step.proofs.add_grid_rows.Goals as goal
 
@@ -9,13 +10,14 @@ pub add_grid_row-requires : goal.add_grid_row-requires
 add_grid_row-requires c =
     (c.requires.0, c.loop-y-test.true, c.loop-y.invariant.fits)
 
-pub returns-in-NoRows : goal.returns-in-NoRows
-returns-in-NoRows c =
-    record { made = growing_out c.loop-y.invariant c.loop-y-test.true _ _ c.add_grid_row.ensures.made _ c.in-NoRows.is; fits = tt }
+pub returns-in_err-s : goal.returns-in_err-s
+returns-in_err-s c =
+    let p = err_from_is_err_and c.from_residual.result c.from_residual.ensures.1 in
+    rw (p.1, p.2) (record { made = growing_out c.loop-y.invariant c.loop-y-test.true _ _ c.add_grid_row.ensures.made _ c.in_err-s.was; fits = tt })
 
 pub loop-y-preserved : goal.loop-y-preserved
 loop-y-preserved c =
-    growing_more c.loop-y.invariant c.loop-y-test.true _ _ c.add_grid_row.ensures.made c.add_grid_row.ensures.fits c.add_grid_row.auto.plane _ c.in-Sofar.is
+    growing_more c.loop-y.invariant c.loop-y-test.true _ _ c.add_grid_row.ensures.made c.add_grid_row.ensures.fits c.add_grid_row.auto.plane _ c.in_ok-s.was
 
 pub returns : goal.returns
 returns c = let q = c.loop-y.invariant in record { made = growing_end q c.loop-y-test.false; fits = q.fits.plane }

@@ -1,4 +1,5 @@
 -- `step::make_row` meets its contract.
+use Rattle.std.proofs.lemmas.Result.{err_from_is_err_and}
 use Prim.Native.Nat.{◌+◌, ◌*◌, ◌≤◌}
 use native.Mathlib.Omega.{arith}
 use lib.ListN.{length}
@@ -22,11 +23,12 @@ add_frame-requires c =
     let g = c.loop-x-test.true in
     (c.requires.0, g, c.requires.1, c.loop-x.invariant.fits, omega (arith, c.loop-x.invariant.long, c.requires.2), c.loop-x.invariant.starts g)
 
-pub returns-in-NoCells : goal.returns-in-NoCells
-returns-in-NoCells c =
+pub returns-in_err-s : goal.returns-in_err-s
+returns-in_err-s c =
+    let p = err_from_is_err_and c.from_residual.result c.from_residual.ensures.1 in
     let f = c.add_frame.ensures in
-    let q = filling_out c.loop-x.invariant c.loop-x-test.true _ _ f.made f.before _ c.in-NoCells.is in
-    record { made = q.0; fits = tt; before = q.1 }
+    let q = filling_out c.loop-x.invariant c.loop-x-test.true _ _ f.made f.before _ c.in_err-s.was in
+    rw (p.1, p.2) (record { made = q.0; fits = tt; before = q.1 })
 
 pub corner_in_row-x-requires-in-loop-x : goal.corner_in_row-x-requires-in-loop-x
 corner_in_row-x-requires-in-loop-x c =
@@ -38,7 +40,7 @@ loop-x-smaller c = omega (arith, c.loop-x-test.true, c.corner_in_row-x-in-loop-x
 pub loop-x-preserved : goal.loop-x-preserved
 loop-x-preserved c =
     let f = c.add_frame.ensures in
-    filling_more c.loop-x.invariant c.loop-x-test.true _ _ f.made f.before f.fits c.add_frame.auto.plane _ c.in-Cells.is _ c.requires.1 c.corner_in_row-x-in-loop-x.ensures
+    filling_more c.loop-x.invariant c.loop-x-test.true _ _ f.made f.before f.fits c.add_frame.auto.plane _ c.in_ok-s.was _ c.requires.1 c.corner_in_row-x-in-loop-x.ensures
 
 pub returns : goal.returns
 returns c = let q = c.loop-x.invariant in record { made = filling_end q c.loop-x-test.false; fits = q.fits; before = q.kept }

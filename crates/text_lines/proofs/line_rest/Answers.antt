@@ -1,6 +1,5 @@
 -- `text_lines::line_rest` meets its contract: the last code point is known by its place.
 use mathlib.Core.Path.{refl, sym, ◌∙◌}
-use Prim.Native.Nat.{◌-◌}
 use native.Mathlib.Omega.{arith}
 use lib.ListN.{drop}
 use Rattle.utf8.specs.Utf8.{decode}

@@ -4,7 +4,6 @@ use Rattle.utf8.specs.declared.Decoded.TheVariants.{Char}
 use Rattle.utf8.proofs.Utf8Laws.{codes_bad, codes_end, codes-none}
 use Rattle.text_lines.proofs.LineReading.{skip_fits, skip_more, skip_feed, skip_dark, skip_stop}
 use mathlib.Core.Path.{◌≡◌, refl, sym, ◌∙◌}
-use Prim.Native.Nat.{◌-◌}
 use native.Mathlib.Omega.{arith}
 use borrow.Author.Rules.{rules}
 use lib.ListN.{drop}

@@ -4,6 +4,3 @@ use Rattle.texts.proofs.put_part.Given as goal
 
 abbrev pub invariant-loop-i : goal.invariant-loop-i
 invariant-loop-i l = Encoding l.text l.from l.to l.initial.bytes l.at l.bytes l.i l.p
-
-abbrev pub decreases-loop-i : goal.decreases-loop-i
-decreases-loop-i l = l.to - l.i

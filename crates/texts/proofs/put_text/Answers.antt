@@ -24,9 +24,6 @@ overflow_sub-to c = omega (arith, (inside (goal.at.overflow_sub-to c).After-rect
 pub overflow_sub-bottom : goal.overflow_sub-bottom
 overflow_sub-bottom c = omega (arith, (inside (goal.at.overflow_sub-bottom c).After-rect_at-r).tall)
 
-pub overflow_add-y : goal.overflow_add-y
-overflow_add-y c = omega (arith, (inside (goal.at.overflow_add-y c).After-rect_at-r).tall)
-
 pub loop-y-init : goal.loop-y-init
 loop-y-init c =
     let p = c.requires in
@@ -39,14 +36,14 @@ joining c = joining_of (sym c.rect_at-r.ensures) c.loop-y.invariant
 pub overflow_mul-y : goal.overflow_mul-y
 overflow_mul-y c = omega (arith, joining_part (joining (goal.at.overflow_mul-y c).At-loop-y) c.loop-y-test.true)
 
-pub overflow_add-y-in-loop-y : goal.overflow_add-y-in-loop-y
-overflow_add-y-in-loop-y c = omega (arith, joining_part (joining (goal.at.overflow_add-y-in-loop-y c).At-loop-y) c.loop-y-test.true)
+pub overflow_add-y : goal.overflow_add-y
+overflow_add-y c = omega (arith, joining_part (joining (goal.at.overflow_add-y c).At-loop-y) c.loop-y-test.true)
 
 pub overflow_mul-y-in-loop-y : goal.overflow_mul-y-in-loop-y
 overflow_mul-y-in-loop-y c = omega (arith, joining_part (joining (goal.at.overflow_mul-y-in-loop-y c).At-loop-y) c.loop-y-test.true)
 
-pub overflow_add-y-in-loop-y-2 : goal.overflow_add-y-in-loop-y-2
-overflow_add-y-in-loop-y-2 c = omega (arith, joining_part (joining (goal.at.overflow_add-y-in-loop-y-2 c).At-loop-y) c.loop-y-test.true)
+pub overflow_add-y-in-loop-y : goal.overflow_add-y-in-loop-y
+overflow_add-y-in-loop-y c = omega (arith, joining_part (joining (goal.at.overflow_add-y-in-loop-y c).At-loop-y) c.loop-y-test.true)
 
 pub trim_codes_part-part-requires : goal.trim_codes_part-part-requires
 trim_codes_part-part-requires c = joining_part (joining (goal.at.trim_codes_part-part-requires c).At-loop-y) c.loop-y-test.true

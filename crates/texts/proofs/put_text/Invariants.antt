@@ -5,6 +5,3 @@ use Rattle.texts.proofs.put_text.Given as goal
 
 abbrev pub invariant-loop-y : goal.invariant-loop-y
 invariant-loop-y l = Joining l.w l.h l.text (rect_at l.rects l.k) l.bottom l.initial.bytes l.start l.bytes l.y l.at
-
-abbrev pub decreases-loop-y : goal.decreases-loop-y
-decreases-loop-y l = l.bottom - l.y

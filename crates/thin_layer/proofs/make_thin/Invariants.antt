@@ -7,6 +7,3 @@ use Rattle.thin_layer.proofs.make_thin.Given as goal
 
 abbrev pub invariant-loop-i : goal.invariant-loop-i
 invariant-loop-i l = Turning (thin_turn l.text) l.n l.initial.thins l.thins l.i × (l.made ≡ thin_of l.kept)
-
-abbrev pub decreases-loop-i : goal.decreases-loop-i
-decreases-loop-i l = l.n - l.i

@@ -1,9 +1,7 @@
 -- `turning::copy_row` meets its contract.
-use mathlib.Core.Path.{◌≡◌, sym, ap, ◌∙◌}
-use Prim.Native.Nat.{ℕ, ◌-◌, ◌+◌}
+use mathlib.Core.Path.{◌≡◌, sym, ◌∙◌}
+use Prim.Native.Nat.{◌-◌}
 use lib.ListN.{get_or}
-use Rattle.lists.specs.Run.{build}
-use Rattle.cells.specs.Plane.{cell_at}
 use Rattle.cells.proofs.PlaneLaws.{kept_refl}
 use Rattle.cells.proofs.FillLaws.{row-start, row_next}
 use Rattle.turning.proofs.UprightLaws.{drop-row, no_cells}
@@ -33,9 +31,6 @@ put_cell-requires c =
     let f = c.requires in
     (omega (arith, f.1, f.0.fits.rows), omega (arith, c.loop-i-test.true, f.0.fits.cells _ f.1), omega (arith, c.loop-i.invariant.1.same, f.0.room), c.cell_at.ensures.small)
 
-pub overflow_add-i-in-loop-i : goal.overflow_add-i-in-loop-i
-overflow_add-i-in-loop-i c = let p = c.requires in record { fits = omega (arith, c.loop-i-test.true, p.0.fits.cells _ p.1) }
-
 pub loop-i-preserved : goal.loop-i-preserved
 loop-i-preserved c =
     (omega (arith, c.loop-i-test.true), row_next _ _ _ _ _ _ _ c.loop-i.invariant.1 c.cell_at.ensures.cell c.put_cell.auto.plane c.put_cell.ensures.cells c.put_cell.ensures.before)
@@ -45,4 +40,4 @@ returns c =
     let a = c.args in
     let i = c.loop-i.invariant in
     let e : c.loop-i.i ≡ get_or a.plane.now a.row 0 - 1 = omega (arith, i.0, c.loop-i-test.false) in
-    record { count = e; cells = i.1.cells ∙ ap (λ (n : ℕ). build n (λ k. cell_at a.plane.now a.row (k + 1))) e ∙ sym (drop-row a.plane.now a.row); before = i.1.before }
+    record { count = omega arith; cells = rw e at i.1.cells ∙ sym (drop-row a.plane.now a.row); before = i.1.before }

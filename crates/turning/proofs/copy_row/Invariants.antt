@@ -5,6 +5,3 @@ use Rattle.turning.proofs.copy_row.Given as goal
 
 abbrev pub invariant-loop-i : goal.invariant-loop-i
 invariant-loop-i l = (l.i ≤ l.width - 1) × RowFilled (λ k. cell_at l.plane l.row (k + 1)) l.initial.out l.out l.row l.i
-
-abbrev pub decreases-loop-i : goal.decreases-loop-i
-decreases-loop-i l = l.width - 1 - l.i

@@ -1,6 +1,5 @@
 -- `turning::is_wide` meets its contract.
 use mathlib.Core.Path.{◌∙◌}
-use Prim.Native.Nat.{◌-◌}
 use Rattle.turning.proofs.UprightLaws.{wide-start, narrow, wide-next, wide_end}
 use native.Mathlib.Omega.{arith}
 use Rattle.turning.proofs.is_wide.Goals as goal

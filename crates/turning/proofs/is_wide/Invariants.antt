@@ -7,6 +7,3 @@ use Rattle.turning.proofs.is_wide.Given as goal
 
 abbrev pub invariant-loop-row : goal.invariant-loop-row
 invariant-loop-row l = wide_from l.w l.plane l.row (l.n - l.row) ≡ wide l.w (plane_in l.plane l.n)
-
-abbrev pub decreases-loop-row : goal.decreases-loop-row
-decreases-loop-row l = l.n - l.row

@@ -1,6 +1,5 @@
 -- `turning::remove_first_column` meets its contract.
 use mathlib.Core.Path.{sym, ◌∙◌}
-use Prim.Native.Nat.{◌-◌}
 use Rattle.cells.proofs.PlaneLaws.{kept-fits}
 use Rattle.cells.proofs.FillLaws.{plane-start, plane-next, plane_end}
 use Rattle.turning.proofs.UprightLaws.{dropped}

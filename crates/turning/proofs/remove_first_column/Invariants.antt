@@ -1,4 +1,4 @@
-use Prim.Native.Nat.{◌-◌, ◌≤◌}
+use Prim.Native.Nat.{◌≤◌}
 use lib.ListN.{drop}
 use Rattle.cells.specs.Plane.{row_in}
 use Rattle.cells.proofs.FillLaws.{PlaneFilled}
@@ -6,6 +6,3 @@ use Rattle.turning.proofs.remove_first_column.Given as goal
 
 abbrev pub invariant-loop-row : goal.invariant-loop-row
 invariant-loop-row l = (l.row ≤ l.n) × PlaneFilled (λ k. drop 1 (row_in l.plane k)) l.initial.out l.out l.row
-
-abbrev pub decreases-loop-row : goal.decreases-loop-row
-decreases-loop-row l = l.n - l.row

@@ -1,9 +1,7 @@
 -- `turning::turn_column` meets its contract.
 use mathlib.Core.Path.{sym, ap, ◌∙◌, subst}
-use Prim.Native.Nat.{◌-◌}
 use Rattle.model.specs.Cells.{turned_cell, Small}
 use Rattle.model.proofs.CellLaws.{turned-small}
-use Rattle.cells.specs.Plane.{cell_at}
 use Rattle.cells.proofs.FillLaws.{row-start, row_next, row_end}
 use native.Mathlib.Omega.{arith}
 use Rattle.turning.proofs.turn_column.Goals as goal
@@ -14,11 +12,11 @@ loop-i-init c = (omega arith, row-start _ _ _)
 pub put_cell-requires : goal.put_cell-requires
 put_cell-requires c =
     let f = c.requires in
-    (f.1, omega (arith, c.loop-i-test.true, f.0.fits.rows), omega (arith, c.loop-i.invariant.1.same, f.0.room), subst Small (sym c.turned_cell.ensures) (turned-small c.cell_at.result c.cell_at.ensures.small))
+    (f.1, omega (arith, c.loop-i-test.true, f.0.fits.rows), omega (arith, c.loop-i.invariant.1.same, f.0.room), subst Small (sym c.turned.ensures) (turned-small c.cell_at.result c.cell_at.ensures.small))
 
 pub loop-i-preserved : goal.loop-i-preserved
 loop-i-preserved c =
-    (omega (arith, c.loop-i-test.true), row_next _ _ _ _ _ _ _ c.loop-i.invariant.1 (c.turned_cell.ensures ∙ ap turned_cell c.cell_at.ensures.cell) c.put_cell.auto.plane c.put_cell.ensures.cells c.put_cell.ensures.before)
+    (omega (arith, c.loop-i-test.true), row_next _ _ _ _ _ _ _ c.loop-i.invariant.1 (c.turned.ensures ∙ ap turned_cell c.cell_at.ensures.cell) c.put_cell.auto.plane c.put_cell.ensures.cells c.put_cell.ensures.before)
 
 pub returns : goal.returns
 returns c =

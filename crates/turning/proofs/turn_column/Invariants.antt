@@ -1,4 +1,4 @@
-use Prim.Native.Nat.{◌-◌, ◌≤◌}
+use Prim.Native.Nat.{◌≤◌}
 use Rattle.model.specs.Cells.{turned_cell}
 use Rattle.cells.specs.Plane.{cell_at}
 use Rattle.cells.proofs.FillLaws.{RowFilled}
@@ -6,6 +6,3 @@ use Rattle.turning.proofs.turn_column.Given as goal
 
 abbrev pub invariant-loop-i : goal.invariant-loop-i
 invariant-loop-i l = (l.i ≤ l.n) × RowFilled (λ k. turned_cell (cell_at l.plane k l.j)) l.initial.out l.out l.j l.i
-
-abbrev pub decreases-loop-i : goal.decreases-loop-i
-decreases-loop-i l = l.n - l.i

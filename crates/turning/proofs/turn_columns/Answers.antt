@@ -1,5 +1,4 @@
 -- `turning::turn_columns` meets its contract.
-use Prim.Native.Nat.{◌-◌}
 use Rattle.cells.proofs.PlaneLaws.{kept-fits}
 use Rattle.cells.proofs.FillLaws.{plane-start, plane-next, plane_end}
 use native.Mathlib.Omega.{arith}

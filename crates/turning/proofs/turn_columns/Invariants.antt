@@ -1,4 +1,4 @@
-use Prim.Native.Nat.{◌-◌, ◌≤◌}
+use Prim.Native.Nat.{◌≤◌}
 use Rattle.lists.specs.Run.{build}
 use Rattle.model.specs.Cells.{turned_cell}
 use Rattle.cells.specs.Plane.{cell_at}
@@ -7,6 +7,3 @@ use Rattle.turning.proofs.turn_columns.Given as goal
 
 abbrev pub invariant-loop-j : goal.invariant-loop-j
 invariant-loop-j l = (l.j ≤ l.w) × PlaneFilled (λ k. build l.n (λ i. turned_cell (cell_at l.plane i k))) l.initial.out l.out l.j
-
-abbrev pub decreases-loop-j : goal.decreases-loop-j
-decreases-loop-j l = l.w - l.j

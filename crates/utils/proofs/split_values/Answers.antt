@@ -1,10 +1,20 @@
 -- `utils::split_values` meets its contract.
-use mathlib.Core.Path.{sym, ◌∙◌}
-use Rattle.utils.proofs.Answers.{answer_invalid, answer_valid}
+use Rattle.std.proofs.Common.{rules}
+use Rattle.utils.specs.Split.{split_of, scratch_of}
 use Rattle.utils.proofs.split_values.Goals as goal
 
-pub returns-in-Invalid : goal.returns-in-Invalid
-returns-in-Invalid c = let w = answer_invalid _ _ (sym c.validate.ensures ∙ c.in-Invalid.is) in record { answer = w.0; places = w.1.0; scratch = w.1.1 }
+pub returns-in_err-map_err-clause-answer : goal.returns-in_err-map_err-clause-answer
+unfolding split_of
+returns-in_err-map_err-clause-answer c = search rules
 
-pub returns-in-Valid : goal.returns-in-Valid
-returns-in-Valid c = let w = answer_valid c.split_text.result _ _ _ (sym c.validate.ensures ∙ c.in-Valid.is) (c.split_text.ensures.answer, (c.split_text.ensures.places, c.split_text.ensures.scratch)) in record { answer = w.0; places = w.1.0; scratch = w.1.1 }
+pub returns-in_err-map_err-clause-scratch : goal.returns-in_err-map_err-clause-scratch
+unfolding scratch_of
+returns-in_err-map_err-clause-scratch c = search rules
+
+pub returns-clause-answer : goal.returns-clause-answer
+unfolding split_of
+returns-clause-answer c = search rules
+
+pub returns-clause-scratch : goal.returns-clause-scratch
+unfolding scratch_of
+returns-clause-scratch c = search rules

@@ -1,4 +1,5 @@
 -- `walks::walk_line` meets its contract: what is left of the line decides, and what is kept passes; what the sets hold is what the lists have.
+use Rattle.std.specs.Prelude.{Err}
 use mathlib.Core.Path.{◌≡◌, sym, ap, ◌∙◌, subst}
 use mathlib.Core.Bool.{Bool}
 use mathlib.Core.List.{List}
@@ -6,7 +7,6 @@ use Prim.Native.Nat.{ℕ, ◌+◌, ◌-◌, ◌<◌, ◌≤◌}
 use Rattle.walks.specs.Walk.{walk_from, walk_of}
 use native.Mathlib.Nat.{sub-zero}
 use lib.ListN.{length, get_or}
-use Rattle.lists.specs.Answer.{refused}
 use Rattle.model.specs.declared.Refusal.TheVariants.{CharactersNotFound}
 use Rattle.walks.specs.Line.{place, line_of, next_of}
 use Rattle.walks.specs.Sets.{Passes, Sought}
@@ -15,7 +15,7 @@ use Rattle.walks.proofs.LineLaws.{place_zero, place-next, reach_next, reach_in}
 use native.Mathlib.Omega.{arith}
 use borrow.Author.Rules.{rules}
 use Rattle.walks.proofs.walk_line.Goals as goal
-use Rattle.walks.proofs.walk_line.Goals.{After-next-p}
+use Rattle.walks.proofs.walk_line.Goals.{After-next-p, then-code-kept+else-holds+else-not-holds, else-code-kept}
 
 pub loop-k-init : goal.loop-k-init
 loop-k-init c =
@@ -77,19 +77,19 @@ returns-then-not-holds c ss aa e =
     sym (turn_barred (line_of c.args.layer.now c.args.back c.args.at c.args.step) ss aa l.k c.args.count (get_or c.args.layer.now c.next-p.result 0) c.loop-k-test.true (stands (goal.at.returns-then-not-holds c).After-next-p) (told (e.ends (get_or c.args.layer.now c.next-p.result 0)) c.holds.ensures c.if-holds.false) (told (e.passes (get_or c.args.layer.now c.next-p.result 0)) c.holds-then-code-kept.ensures c.if-not-holds.true))
     ∙ (l.invariant.1.1 ss aa e).0
 
-pub loop-k-preserved-then-code-kept : goal.loop-k-preserved-then-code-kept
-loop-k-preserved-then-code-kept c =
-    on (goal.at.loop-k-preserved-then-code-kept c).After-next-p (get_or c.args.layer.now c.next-p.result 0) (stands (goal.at.loop-k-preserved-then-code-kept c).After-next-p)
-    (λ ss aa e. (told (e.ends (get_or c.args.layer.now c.next-p.result 0)) c.holds.ensures c.if-holds.false, told (e.passes (get_or c.args.layer.now c.next-p.result 0)) c.holds-then-code-kept.ensures c.if-not-holds.false))
-
 pub loop-k-preserved : goal.loop-k-preserved
 loop-k-preserved c =
     let l = c.loop-k in
-    on (goal.at.loop-k-preserved c).After-next-p l.kept (stands (goal.at.loop-k-preserved c).After-next-p ∙ c.if-code-kept.false) (λ ss aa e. (l.invariant.1.1 ss aa e).1)
+    let turn = (goal.at.loop-k-preserved c).After-next-p in
+    let code = get_or c.args.layer.now c.next-p.result 0 in
+    elim c.if-code-kept.branch [
+      | then-code-kept+else-holds+else-not-holds w ↦ rw w.kept-is (on turn code (stands turn) (λ ss aa e. (told (e.ends code) w.holds.ensures w.if-holds.false, told (e.passes code) w.holds-then-code-kept.ensures w.if-not-holds.false)))
+      | else-code-kept w ↦ rw w.kept-is (on turn l.kept (stands turn ∙ w.if-code-kept.false) (λ ss aa e. (l.invariant.1.1 ss aa e).1))
+    ]
 
 pub returns : goal.returns
 returns c ss aa e =
     let l = c.loop-k in
     let a = c.args in
-    ap (λ (q : ℕ). refused (CharactersNotFound q)) e.first
+    ap (λ (q : ℕ). Err (CharactersNotFound q)) e.first
     ∙ sym (turn_end (line_of c.args.layer.now c.args.back c.args.at c.args.step) ss aa l.k a.count c.loop-k-test.false) ∙ (l.invariant.1.1 ss aa e).0

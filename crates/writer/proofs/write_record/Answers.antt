@@ -2,6 +2,7 @@
 use mathlib.Core.Path.{sym, ◌∙◌}
 use Rattle.writer.proofs.WritingLaws.{record_small, slots-held, texts_fit, record_room, record_whole, record_short}
 use native.Mathlib.Omega.{arith}
+use Rattle.std.proofs.lemmas.Result.{err_from_is_err_and}
 use Rattle.writer.proofs.write_record.Goals as goal
 
 pub begin_record-requires : goal.begin_record-requires
@@ -10,12 +11,17 @@ begin_record-requires c = record_small c.requires
 pub write_slots-requires : goal.write_slots-requires
 write_slots-requires c =
     let begun = c.begin_record.ensures in
-    record { parts_held = slots-held c.requires; fits = texts_fit c.requires (omega (arith, record_room c.requires c.args.out.now _ (sym c.in-Record.is ∙ begun.value))) }
+    record { parts_held = slots-held c.requires; fits = texts_fit c.requires (omega (arith, record_room c.requires c.args.out.now _ (sym c.in_ok-total.was ∙ begun.value))) }
 
-pub returns-in-Record : goal.returns-in-Record
-returns-in-Record c =
-    let begun = c.begin_record.ensures in let w = record_whole c.requires c.args.out.now _ begun.out_after _ _ (sym c.in-Record.is ∙ begun.value) c.write_slots.ensures in record { answer = w.0; written = w.1 }
+pub returns-in_err-total : goal.returns-in_err-total
+returns-in_err-total c =
+    let begun = c.begin_record.ensures in
+    let w = record_short c.requires c.args.out.now _ begun.out_after _ (sym c.in_err-total.was ∙ begun.value) in
+    let p = err_from_is_err_and c.from_residual.result c.from_residual.ensures.1 in
+    record { answer = rw (p.1, p.2) w.0; written = w.1 }
 
-pub returns-in-NotWritten : goal.returns-in-NotWritten
-returns-in-NotWritten c =
-    let begun = c.begin_record.ensures in let w = record_short c.requires c.args.out.now _ begun.out_after _ (sym c.in-NotWritten.is ∙ begun.value) in record { answer = w.0; written = w.1 }
+pub returns : goal.returns
+returns c =
+    let begun = c.begin_record.ensures in
+    let w = record_whole c.requires c.args.out.now _ begun.out_after _ _ (sym c.in_ok-total.was ∙ begun.value) c.write_slots.ensures in
+    record { answer = w.0; written = w.1 }

@@ -1,5 +1,4 @@
 -- `writer::write_slots` meets its contract.
-use Prim.Native.Nat.{◌-◌}
 use Rattle.writer.proofs.WritingLaws.{held-parts, held-slots, slots-start, parts_ask, parts-left, behind-parts, slot_ask, slot_left, slots_end}
 use native.Mathlib.Omega.{arith}
 use Rattle.writer.proofs.write_slots.Goals as goal
