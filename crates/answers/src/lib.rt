@@ -9,9 +9,11 @@ ghost use Rattle.cells.specs.Plane.{plane_in, PlaneFits};
 ghost use Rattle.print.specs.Decimal.{Written};
 ghost use Rattle.plane_lines.specs.Planes.{upright_lines, upright_bytes};
 ghost use Rattle.lines.specs.Room.{line_bytes};
+ghost use Rattle.lent.specs.Lent.{lists_of};
 ghost use Rattle.answers.specs.SplitLines.{printed, split_line};
 ghost use Rattle.answers.specs.LentLines.{lent_lines};
 
+use lent::Lent;
 use model::Refusal;
 use plane::Stated;
 use utils::Rewritten;
@@ -62,33 +64,14 @@ fn put_stated(out: &mut [u8], at: usize, s: Stated, upright: &[u32]) -> usize
 }
 
 // The upright sheet of a lent plane, or why there is none.
-pub fn put_upright_sheet(
-    out: &mut [u8],
-    at: usize,
-    rows: &[u32],
-    kinds: &[u8],
-    regions: &[u32],
-    offsets: &[u32],
-    sizes: &[u32],
-    bytes: &[u8],
-) -> usize
+pub fn put_upright_sheet(out: &mut [u8], at: usize, l: Lent) -> usize
     requires { at + upright_bytes ≤ length out.old }
-    ensures { Written out.old out.new at (lent_lines (record { rows = rows.now; kinds = kinds.now; regions = regions.now; offsets = offsets.now; sizes = sizes.now; bytes = bytes.now })) upright_bytes result }
+    ensures { Written out.old out.new at (lent_lines (lists_of l.entry)) upright_bytes result }
 {
     let mut plane = [0u32; 4160];
     let mut spans = [0u32; 2048];
     let mut upright = [0u32; 4160];
-    match plane::lent_sheet(
-        rows,
-        kinds,
-        regions,
-        offsets,
-        sizes,
-        bytes,
-        &mut plane,
-        &mut spans,
-        &mut upright,
-    ) {
+    match plane::lent_sheet(l, &mut plane, &mut spans, &mut upright) {
         Ok(s) => put_stated(out, at, s, &upright),
         Err(r) => print::put_refusal(out, at, r),
     }

@@ -6,6 +6,7 @@ ghost use Rattle.builder.specs.SheetEnd.{sheet_end};
 ghost use Rattle.lent_builder.specs.LentEnd.{lent_end};
 ghost use Rattle.numbers.specs.Answers.{answer_of, SplitTold};
 
+use lent::Lent;
 use numbers::{Answer, SplitAnswer};
 
 // The whole reader.
@@ -47,9 +48,15 @@ pub extern "C" fn fezandimo_read_lent_plane(
     ensures works { (plane.new ∷ spans.new ∷ upright.new ∷ slots.new ∷ []) ≡ (lent_end (record { rows = rows.now; kinds = kinds.now; regions = regions.now; offsets = offsets.now; sizes = sizes.now; bytes = bytes.now }) (plane.old ∷ spans.old ∷ upright.old ∷ slots.old ∷ []) out.old).works }
     ensures out { out.new ≡ (lent_end (record { rows = rows.now; kinds = kinds.now; regions = regions.now; offsets = offsets.now; sizes = sizes.now; bytes = bytes.now }) (plane.old ∷ spans.old ∷ upright.old ∷ slots.old ∷ []) out.old).out }
 {
-    let o = lent_builder::read_lent_plane(
-        rows, kinds, regions, offsets, sizes, bytes, plane, spans, upright, slots, out,
-    );
+    let l = Lent {
+        rows,
+        kinds,
+        regions,
+        offsets,
+        sizes,
+        bytes,
+    };
+    let o = lent_builder::read_lent_plane(l, plane, spans, upright, slots, out);
     numbers::outcome_answer(o)
 }
 

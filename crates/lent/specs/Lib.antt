@@ -1,2 +1,3 @@
 pub mod LentPlane
 pub mod Held
+pub mod Lent

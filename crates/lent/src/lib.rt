@@ -9,10 +9,23 @@ ghost use Rattle.cells.specs.Plane.{cells_in, plane_in, PlaneFits, KeptBefore};
 ghost use Rattle.white_space.specs.Trim.{trim_utf8};
 ghost use Rattle.cells.specs.Spans.{texts_in};
 ghost use Rattle.lent.specs.LentPlane.{sum, all_at, known_cell, good_part, within_limits, counts_agree, cells_known, parts_good, well_formed, cut, lent_of};
+ghost use Rattle.lent.specs.Lent.{lists_of};
 ghost use Rattle.lent.specs.Held.{CellsGood, RowsGood, PartsGood, SpansIn, Room, loaded_in, LoadedHeld};
 
 use model::limits::{PLANE_CELLS, PLANE_ROWS, REGIONS, TEXT_BYTES};
 use model::{Cell, Refusal};
+
+// A lent plane: the lengths of its rows; its cells' kinds and region numbers, one row behind the other; and its regions' texts, each a part of
+// the bytes by its offset and its size.
+#[derive(Clone, Copy)]
+pub struct Lent<'a> {
+    pub rows: &'a [u32],
+    pub kinds: &'a [u8],
+    pub regions: &'a [u32],
+    pub offsets: &'a [u32],
+    pub sizes: &'a [u32],
+    pub bytes: &'a [u8],
+}
 
 // The cells of all rows.
 fn total(rows: &[u32]) -> usize
@@ -121,26 +134,19 @@ fn counts_agree(rows: &[u32], kinds: &[u8], regions: &[u32], offsets: &[u32], si
 }
 
 // Whether a lent plane is as number 26 asks.
-fn is_well_formed(
-    rows: &[u32],
-    kinds: &[u8],
-    regions: &[u32],
-    offsets: &[u32],
-    sizes: &[u32],
-    bytes: &[u8],
-) -> bool
-    ensures { result ≡ well_formed (record { rows = rows.now; kinds = kinds.now; regions = regions.now; offsets = offsets.now; sizes = sizes.now; bytes = bytes.now }) }
+fn is_well_formed(l: Lent) -> bool
+    ensures { result ≡ well_formed (lists_of l.entry) }
 {
-    if !is_within(rows, offsets, bytes) {
+    if !is_within(l.rows, l.offsets, l.bytes) {
         return false;
     }
-    if !counts_agree(rows, kinds, regions, offsets, sizes) {
+    if !counts_agree(l.rows, l.kinds, l.regions, l.offsets, l.sizes) {
         return false;
     }
-    if !cells_known(kinds, regions, offsets.len()) {
+    if !cells_known(l.kinds, l.regions, l.offsets.len()) {
         return false;
     }
-    parts_good(offsets, sizes, bytes)
+    parts_good(l.offsets, l.sizes, l.bytes)
 }
 
 // The cell of a kind, which is a number since the caller in C lends it.
@@ -202,24 +208,15 @@ fn load_texts(offsets: &[u32], sizes: &[u32], bytes: &[u8], spans: &mut [u32])
 }
 
 // A lent plane, checked, in the slices of a plane and of its texts.
-pub fn load(
-    rows: &[u32],
-    kinds: &[u8],
-    regions: &[u32],
-    offsets: &[u32],
-    sizes: &[u32],
-    bytes: &[u8],
-    plane: &mut [u32],
-    spans: &mut [u32],
-) -> Result<usize, Refusal>
+pub fn load(l: Lent, plane: &mut [u32], spans: &mut [u32]) -> Result<usize, Refusal>
     requires { Room plane.old spans.old }
-    ensures loaded { loaded_in result plane.new bytes.now spans.new (length offsets.now) ≡ lent_of (record { rows = rows.now; kinds = kinds.now; regions = regions.now; offsets = offsets.now; sizes = sizes.now; bytes = bytes.now }) }
-    ensures held { LoadedHeld result plane.new bytes.now spans.new (length offsets.now) }
+    ensures loaded { loaded_in result plane.new l.entry.bytes.now spans.new (length l.entry.offsets.now) ≡ lent_of (lists_of l.entry) }
+    ensures held { LoadedHeld result plane.new l.entry.bytes.now spans.new (length l.entry.offsets.now) }
 {
-    if !is_well_formed(rows, kinds, regions, offsets, sizes, bytes) {
+    if !is_well_formed(l) {
         return Err(Refusal::LentPlaneMalformed);
     }
-    load_rows(rows, kinds, regions, plane);
-    load_texts(offsets, sizes, bytes, spans);
-    Ok(rows.len())
+    load_rows(l.rows, l.kinds, l.regions, plane);
+    load_texts(l.offsets, l.sizes, l.bytes, spans);
+    Ok(l.rows.len())
 }

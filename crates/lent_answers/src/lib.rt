@@ -3,31 +3,23 @@
 
 ghost use Rattle.std.specs.Prelude.{◌+◌, ◌≤◌, length};
 ghost use Rattle.print.specs.Decimal.{Written};
+ghost use Rattle.lent.specs.Lent.{lists_of};
 ghost use Rattle.lent_lists.specs.LentText.{lent_at, EndsFit};
 ghost use Rattle.lines.specs.Room.{line_bytes};
 ghost use Rattle.lent_answers.specs.Lines.{lines_by};
 
+use lent::Lent;
 use lent_lists::{Ends, PART_MOST, REGION_MOST, ROW_MOST};
 
 // The record of a lent plane, or its upright sheet, or why there is none.
-fn put_lists(
-    out: &mut [u8],
-    at: usize,
-    is_table: bool,
-    rows: &[u32],
-    kinds: &[u8],
-    regions: &[u32],
-    offsets: &[u32],
-    sizes: &[u32],
-    bytes: &[u8],
-) -> usize
+fn put_lists(out: &mut [u8], at: usize, is_table: bool, l: Lent) -> usize
     requires { at + line_bytes ≤ length out.old }
-    ensures { Written out.old out.new at (lines_by is_table (record { rows = rows.now; kinds = kinds.now; regions = regions.now; offsets = offsets.now; sizes = sizes.now; bytes = bytes.now })) line_bytes result }
+    ensures { Written out.old out.new at (lines_by is_table (lists_of l.entry)) line_bytes result }
 {
     if is_table {
-        return lent_reports::put_lent_plane(out, at, rows, kinds, regions, offsets, sizes, bytes);
+        return lent_reports::put_lent_plane(out, at, l);
     }
-    answers::put_upright_sheet(out, at, rows, kinds, regions, offsets, sizes, bytes)
+    answers::put_upright_sheet(out, at, l)
 }
 
 // The answer to the lists of a lent plane in a text.
@@ -51,15 +43,13 @@ pub fn put_lent(out: &mut [u8], at: usize, is_table: bool, s: &[u8], e: Ends) ->
     let region_count = e.regions - (e.kinds + 2);
     let offset_count = e.offsets - (e.regions + 2);
     let size_count = e.sizes - (e.offsets + 2);
-    put_lists(
-        out,
-        at,
-        is_table,
-        &rows[0..row_count],
-        &s[kinds_from..kinds_to],
-        &regions[0..region_count],
-        &offsets[0..offset_count],
-        &sizes[0..size_count],
-        &s[bytes_from..bytes_to],
-    )
+    let l = Lent {
+        rows: &rows[0..row_count],
+        kinds: &s[kinds_from..kinds_to],
+        regions: &regions[0..region_count],
+        offsets: &offsets[0..offset_count],
+        sizes: &sizes[0..size_count],
+        bytes: &s[bytes_from..bytes_to],
+    };
+    put_lists(out, at, is_table, l)
 }

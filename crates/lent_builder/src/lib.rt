@@ -3,8 +3,10 @@
 
 ghost use Rattle.std.specs.Prelude.{[], ◌∷◌, ◌≡◌};
 ghost use Rattle.room.specs.Room.{Roomy};
+ghost use Rattle.lent.specs.Lent.{lists_of};
 ghost use Rattle.lent_builder.specs.LentEnd.{lent_sizes, lent_end};
 
+use lent::Lent;
 use model::Refusal;
 
 // The least lengths of the work slices, in the order in which they are lent.
@@ -12,12 +14,7 @@ const LENT_SIZES: [usize; 4] = [4160, 2048, 4160, 12480];
 
 // The record of a lent plane; then the work slices are cleared.
 fn lent_cleared(
-    rows: &[u32],
-    kinds: &[u8],
-    regions: &[u32],
-    offsets: &[u32],
-    sizes: &[u32],
-    bytes: &[u8],
+    l: Lent,
     plane: &mut [u32],
     spans: &mut [u32],
     upright: &mut [u32],
@@ -25,35 +22,26 @@ fn lent_cleared(
     out: &mut [u8],
 ) -> Result<usize, Refusal>
     requires { Roomy (plane.old ∷ spans.old ∷ upright.old ∷ slots.old ∷ []) lent_sizes }
-    ensures end { lent_end (record { rows = rows.now; kinds = kinds.now; regions = regions.now; offsets = offsets.now; sizes = sizes.now; bytes = bytes.now }) (plane.old ∷ spans.old ∷ upright.old ∷ slots.old ∷ []) out.old ≡ record { outcome = result; works = plane.new ∷ spans.new ∷ upright.new ∷ slots.new ∷ []; out = out.new } }
+    ensures end { lent_end (lists_of l.entry) (plane.old ∷ spans.old ∷ upright.old ∷ slots.old ∷ []) out.old ≡ record { outcome = result; works = plane.new ∷ spans.new ∷ upright.new ∷ slots.new ∷ []; out = out.new } }
 {
-    let r = lent_records::lent_record(
-        rows, kinds, regions, offsets, sizes, bytes, plane, spans, upright, slots, out,
-    );
+    let r = lent_records::lent_record(l, plane, spans, upright, slots, out);
     ends::clear_four(plane, spans, upright, slots);
     r
 }
 
 // The table from a lent plane: its record, into `out`.
 pub fn read_lent_plane(
-    rows: &[u32],
-    kinds: &[u8],
-    regions: &[u32],
-    offsets: &[u32],
-    sizes: &[u32],
-    bytes: &[u8],
+    l: Lent,
     plane: &mut [u32],
     spans: &mut [u32],
     upright: &mut [u32],
     slots: &mut [u32],
     out: &mut [u8],
 ) -> Result<usize, Refusal>
-    ensures end { lent_end (record { rows = rows.now; kinds = kinds.now; regions = regions.now; offsets = offsets.now; sizes = sizes.now; bytes = bytes.now }) (plane.old ∷ spans.old ∷ upright.old ∷ slots.old ∷ []) out.old ≡ record { outcome = result; works = plane.new ∷ spans.new ∷ upright.new ∷ slots.new ∷ []; out = out.new } }
+    ensures end { lent_end (lists_of l.entry) (plane.old ∷ spans.old ∷ upright.old ∷ slots.old ∷ []) out.old ≡ record { outcome = result; works = plane.new ∷ spans.new ∷ upright.new ∷ slots.new ∷ []; out = out.new } }
 {
     let lens = [plane.len(), spans.len(), upright.len(), slots.len()];
     let least = LENT_SIZES;
     room::work_slices(&lens, &least)?;
-    lent_cleared(
-        rows, kinds, regions, offsets, sizes, bytes, plane, spans, upright, slots, out,
-    )
+    lent_cleared(l, plane, spans, upright, slots, out)
 }

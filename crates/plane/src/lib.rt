@@ -6,10 +6,12 @@ ghost use Rattle.model.specs.Limits.{plane_size};
 ghost use Rattle.cells.specs.Held.{Held};
 ghost use Rattle.cells.specs.Plane.{plane_in};
 ghost use Rattle.cells.specs.Spans.{text_in};
+ghost use Rattle.lent.specs.Lent.{lists_of};
 ghost use Rattle.plane.specs.LentSheet.{lent_sheet, WorkRoom};
 ghost use Rattle.plane.specs.Sheet.{stated_sheet};
 ghost use Rattle.plane.specs.Stated.{stated_in, StatedHeld};
 
+use lent::Lent;
 use model::{HitPolicy, Orientation, Refusal};
 
 // Which way a sheet is laid out, its hit policy, how many rules it has, and the rows of its upright sheet.
@@ -48,20 +50,15 @@ pub fn upright_sheet(
 
 // What a lent plane states before the clause rules; the upright sheet goes into `out`.
 pub fn lent_sheet(
-    rows: &[u32],
-    kinds: &[u8],
-    regions: &[u32],
-    offsets: &[u32],
-    sizes: &[u32],
-    bytes: &[u8],
+    l: Lent,
     plane: &mut [u32],
     spans: &mut [u32],
     out: &mut [u32],
 ) -> Result<Stated, Refusal>
     requires { WorkRoom plane.old spans.old out.old }
-    ensures sheet { stated_in result out.new ≡ lent_sheet (record { rows = rows.now; kinds = kinds.now; regions = regions.now; offsets = offsets.now; sizes = sizes.now; bytes = bytes.now }) }
-    ensures held { StatedHeld result out.new bytes.now spans.new (length offsets.now) }
+    ensures sheet { stated_in result out.new ≡ lent_sheet (lists_of l.entry) }
+    ensures held { StatedHeld result out.new l.entry.bytes.now spans.new (length l.entry.offsets.now) }
 {
-    let n = lent::load(rows, kinds, regions, offsets, sizes, bytes, plane, spans)?;
-    upright_sheet(plane, n, bytes, spans, offsets.len(), out)
+    let n = lent::load(l, plane, spans)?;
+    upright_sheet(plane, n, l.bytes, spans, l.offsets.len(), out)
 }

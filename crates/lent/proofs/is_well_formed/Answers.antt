@@ -2,6 +2,7 @@
 use mathlib.Core.Path.{◌≡◌, sym, ◌∙◌}
 use mathlib.Core.Bool.{true}
 use lib.ListN.{length}
+use Rattle.lent.specs.Lent.{lists_of}
 use Rattle.lent.specs.LentPlane.{LentPlane, within_limits, counts_agree, cells_known}
 use Rattle.lent.proofs.LimitLaws.{few-rows}
 use Rattle.lent.proofs.CountLaws.{same-regions, same-sizes}
@@ -9,40 +10,37 @@ use Rattle.lent.proofs.FormLaws.{too_much, not_agreed, not_known, parts_decide}
 use Rattle.lent.proofs.is_well_formed.Goals as goal
 use Rattle.lent.proofs.is_well_formed.Goals.{Else-not-cells_known, Else-not-counts_agree, Else-not-is_within, Start}
 
-abbrev lent : Start → LentPlane
-lent s = let a = s.args in record { rows = a.rows.now; kinds = a.kinds.now; regions = a.regions.now; offsets = a.offsets.now; sizes = a.sizes.now; bytes = a.bytes.now }
-
 -- the tests that have held
-within : (c : Else-not-is_within) → let l = lent (goal.at.counts_agree-requires c).Start in within_limits l.rows l.offsets l.bytes ≡ true
+within : (c : Else-not-is_within) → let l = lists_of c.args.l in within_limits l.rows l.offsets l.bytes ≡ true
 within c = sym c.is_within.ensures ∙ c.if-not-is_within.false
 
-agree : (c : Else-not-counts_agree) → let l = lent (goal.at.cells_known-requires c).Start in counts_agree l.rows l.kinds l.regions l.offsets l.sizes ≡ true
+agree : (c : Else-not-counts_agree) → let l = lists_of c.args.l in counts_agree l.rows l.kinds l.regions l.offsets l.sizes ≡ true
 agree c = sym c.counts_agree.ensures ∙ c.if-not-counts_agree.false
 
-known : (c : Else-not-cells_known) → let l = lent (goal.at.parts_good-requires c).Start in cells_known (length l.offsets) l.kinds l.regions ≡ true
+known : (c : Else-not-cells_known) → let l = lists_of c.args.l in cells_known (length l.offsets) l.kinds l.regions ≡ true
 known c = sym c.cells_known.ensures ∙ c.if-not-cells_known.false
 
 pub returns-then-not-is_within : goal.returns-then-not-is_within
-returns-then-not-is_within c = too_much (lent (goal.at.returns-then-not-is_within c).Start) (sym c.is_within.ensures ∙ c.if-not-is_within.true)
+returns-then-not-is_within c = too_much (lists_of c.args.l) (sym c.is_within.ensures ∙ c.if-not-is_within.true)
 
 pub counts_agree-requires : goal.counts_agree-requires
-counts_agree-requires c = let l = lent (goal.at.counts_agree-requires c).Start in few-rows l.rows l.offsets l.bytes (within c)
+counts_agree-requires c = let l = lists_of c.args.l in few-rows l.rows l.offsets l.bytes (within (goal.at.counts_agree-requires c).Else-not-is_within)
 
 pub returns-then-not-counts_agree : goal.returns-then-not-counts_agree
-returns-then-not-counts_agree c = not_agreed (lent (goal.at.returns-then-not-counts_agree c).Start) (within (goal.at.returns-then-not-counts_agree c).Else-not-is_within) (sym c.counts_agree.ensures ∙ c.if-not-counts_agree.true)
+returns-then-not-counts_agree c = not_agreed (lists_of c.args.l) (within (goal.at.returns-then-not-counts_agree c).Else-not-is_within) (sym c.counts_agree.ensures ∙ c.if-not-counts_agree.true)
 
 pub cells_known-requires : goal.cells_known-requires
-cells_known-requires c = let l = lent (goal.at.cells_known-requires c).Start in same-regions l.rows l.kinds l.regions l.offsets l.sizes (agree c)
+cells_known-requires c = let l = lists_of c.args.l in same-regions l.rows l.kinds l.regions l.offsets l.sizes (agree (goal.at.cells_known-requires c).Else-not-counts_agree)
 
 pub returns-then-not-cells_known : goal.returns-then-not-cells_known
 returns-then-not-cells_known c =
-    not_known (lent (goal.at.returns-then-not-cells_known c).Start) (within (goal.at.returns-then-not-cells_known c).Else-not-is_within) (agree (goal.at.returns-then-not-cells_known c).Else-not-counts_agree) (sym c.cells_known.ensures ∙ c.if-not-cells_known.true)
+    not_known (lists_of c.args.l) (within (goal.at.returns-then-not-cells_known c).Else-not-is_within) (agree (goal.at.returns-then-not-cells_known c).Else-not-counts_agree) (sym c.cells_known.ensures ∙ c.if-not-cells_known.true)
 
 pub parts_good-requires : goal.parts_good-requires
 parts_good-requires c =
-    let l = lent (goal.at.parts_good-requires c).Start in
+    let l = lists_of c.args.l in
     same-sizes l.rows l.kinds l.regions l.offsets l.sizes (agree (goal.at.parts_good-requires c).Else-not-counts_agree)
 
 pub returns : goal.returns
 returns c =
-    parts_decide (lent (goal.at.returns c).Start) (within (goal.at.returns c).Else-not-is_within) (agree (goal.at.returns c).Else-not-counts_agree) (known (goal.at.returns c).Else-not-cells_known) _ c.parts_good.ensures
+    parts_decide (lists_of c.args.l) (within (goal.at.returns c).Else-not-is_within) (agree (goal.at.returns c).Else-not-counts_agree) (known (goal.at.returns c).Else-not-cells_known) _ c.parts_good.ensures

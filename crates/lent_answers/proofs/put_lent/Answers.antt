@@ -58,35 +58,35 @@ overflow_add-size_count c = let e = c.requires.1 in omega (arith, e.sizes.low, e
 pub overflow_sub-size_count : goal.overflow_sub-size_count
 overflow_sub-size_count c = let e = c.requires.1 in omega (arith, e.sizes.low)
 
-pub slice_bounds-put_lists-end : goal.slice_bounds-put_lists-end
-slice_bounds-put_lists-end c = let e = c.requires.1 in omega (arith, e.rows.short, c.widen.auto.into)
+pub slice_bounds-l-end : goal.slice_bounds-l-end
+slice_bounds-l-end c = let e = c.requires.1 in omega (arith, e.rows.short, c.widen.auto.into)
 
-pub slice_bounds-put_lists-count-2 : goal.slice_bounds-put_lists-count-2
-slice_bounds-put_lists-count-2 c = let e = c.requires.1 in omega (arith, e.kinds.low, e.kinds.high)
+pub slice_bounds-l-count-2 : goal.slice_bounds-l-count-2
+slice_bounds-l-count-2 c = let e = c.requires.1 in omega (arith, e.kinds.low, e.kinds.high)
 
-pub slice_bounds-put_lists-start-2 : goal.slice_bounds-put_lists-start-2
-slice_bounds-put_lists-start-2 c = let e = c.requires.1 in omega (arith, e.kinds.low, e.kinds.high)
+pub slice_bounds-l-start-2 : goal.slice_bounds-l-start-2
+slice_bounds-l-start-2 c = let e = c.requires.1 in omega (arith, e.kinds.low, e.kinds.high)
 
-pub slice_bounds-put_lists-end-2 : goal.slice_bounds-put_lists-end-2
-slice_bounds-put_lists-end-2 c = let e = c.requires.1 in omega (arith, e.kinds.low, e.kinds.high)
+pub slice_bounds-l-end-2 : goal.slice_bounds-l-end-2
+slice_bounds-l-end-2 c = let e = c.requires.1 in omega (arith, e.kinds.low, e.kinds.high)
 
-pub slice_bounds-put_lists-end-3 : goal.slice_bounds-put_lists-end-3
-slice_bounds-put_lists-end-3 c = let e = c.requires.1 in omega (arith, e.regions.short, c.widen-2.auto.into)
+pub slice_bounds-l-end-3 : goal.slice_bounds-l-end-3
+slice_bounds-l-end-3 c = let e = c.requires.1 in omega (arith, e.regions.short, c.widen-2.auto.into)
 
-pub slice_bounds-put_lists-end-4 : goal.slice_bounds-put_lists-end-4
-slice_bounds-put_lists-end-4 c = let e = c.requires.1 in omega (arith, e.offsets.short, c.widen-3.auto.into)
+pub slice_bounds-l-end-4 : goal.slice_bounds-l-end-4
+slice_bounds-l-end-4 c = let e = c.requires.1 in omega (arith, e.offsets.short, c.widen-3.auto.into)
 
-pub slice_bounds-put_lists-end-5 : goal.slice_bounds-put_lists-end-5
-slice_bounds-put_lists-end-5 c = let e = c.requires.1 in omega (arith, e.sizes.short, c.widen-4.auto.into)
+pub slice_bounds-l-end-5 : goal.slice_bounds-l-end-5
+slice_bounds-l-end-5 c = let e = c.requires.1 in omega (arith, e.sizes.short, c.widen-4.auto.into)
 
-pub slice_bounds-put_lists-count-6 : goal.slice_bounds-put_lists-count-6
-slice_bounds-put_lists-count-6 c = let e = c.requires.1 in omega (arith, e.bytes.low, e.bytes.high)
+pub slice_bounds-l-count-6 : goal.slice_bounds-l-count-6
+slice_bounds-l-count-6 c = let e = c.requires.1 in omega (arith, e.bytes.low, e.bytes.high)
 
-pub slice_bounds-put_lists-start-6 : goal.slice_bounds-put_lists-start-6
-slice_bounds-put_lists-start-6 c = let e = c.requires.1 in omega (arith, e.bytes.low, e.bytes.high)
+pub slice_bounds-l-start-6 : goal.slice_bounds-l-start-6
+slice_bounds-l-start-6 c = let e = c.requires.1 in omega (arith, e.bytes.low, e.bytes.high)
 
-pub slice_bounds-put_lists-end-6 : goal.slice_bounds-put_lists-end-6
-slice_bounds-put_lists-end-6 c = let e = c.requires.1 in omega (arith, e.bytes.low, e.bytes.high)
+pub slice_bounds-l-end-6 : goal.slice_bounds-l-end-6
+slice_bounds-l-end-6 c = let e = c.requires.1 in omega (arith, e.bytes.low, e.bytes.high)
 
 pub put_lists-requires : goal.put_lists-requires
 put_lists-requires c = omega (arith, c.requires.0)

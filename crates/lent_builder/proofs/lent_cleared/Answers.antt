@@ -1,6 +1,7 @@
 -- `lent_builder::lent_cleared` meets its contract.
 use mathlib.Core.List.{[], ◌∷◌}
 use mathlib.Core.Path.{◌∙◌}
+use Rattle.lent.specs.Lent.{lists_of}
 use Rattle.lent.specs.LentPlane.{LentPlane}
 use Rattle.policies.specs.LentPolicy.{lent_policy}
 use Rattle.lent_builder.specs.LentEnd.{lent_sizes}
@@ -14,11 +15,6 @@ gone c =
     let s = c.args in
     one (c.clear_four.ensures.0 ∙ zeros-same c.lent_record-r.new.plane s.plane.now c.lent_record-r.auto.plane) (one (c.clear_four.ensures.1 ∙ zeros-same c.lent_record-r.new.spans s.spans.now c.lent_record-r.auto.spans) (one (c.clear_four.ensures.2 ∙ zeros-same c.lent_record-r.new.upright s.upright.now c.lent_record-r.auto.upright) (one (c.clear_four.ensures.3 ∙ zeros-same c.lent_record-r.new.slots s.slots.now c.lent_record-r.auto.slots) (none))))
 
-abbrev lent : Start → LentPlane
-lent s =
-    let a = s.args in
-    record { rows = a.rows.now; kinds = a.kinds.now; regions = a.regions.now; offsets = a.offsets.now; sizes = a.sizes.now; bytes = a.bytes.now }
-
 pub lent_record-r-requires : goal.lent_record-r-requires
 lent_record-r-requires c =
     let a = c.args in
@@ -26,5 +22,5 @@ lent_record-r-requires c =
 
 pub returns : goal.returns
 returns c =
-    let e = end_cleared lent_sizes (lent_policy (lent (goal.at.returns c).Start)) (c.args.plane.now ∷ c.args.spans.now ∷ c.args.upright.now ∷ c.args.slots.now ∷ []) (c.clear_four.new.a ∷ c.clear_four.new.b ∷ c.clear_four.new.c ∷ c.clear_four.new.d ∷ []) c.args.out.now c.lent_record-r.new.out c.lent_record-r.result c.requires c.lent_record-r.ensures.outcome c.lent_record-r.ensures.out (cleared_all (gone c)) in
+    let e = end_cleared lent_sizes (lent_policy (lists_of c.args.l)) (c.args.plane.now ∷ c.args.spans.now ∷ c.args.upright.now ∷ c.args.slots.now ∷ []) (c.clear_four.new.a ∷ c.clear_four.new.b ∷ c.clear_four.new.c ∷ c.clear_four.new.d ∷ []) c.args.out.now c.lent_record-r.new.out c.lent_record-r.result c.requires c.lent_record-r.ensures.outcome c.lent_record-r.ensures.out (cleared_all (gone c)) in
     record { end = e }

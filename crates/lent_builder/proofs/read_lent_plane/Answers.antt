@@ -1,4 +1,5 @@
 -- `lent_builder::read_lent_plane` meets its contract.
+use Rattle.lent.specs.Lent.{lists_of}
 use Rattle.std.proofs.lemmas.Result.{err_from_is_err_and}
 use mathlib.Core.List.{[], ◌∷◌}
 use mathlib.Core.Path.{sym, ap, ◌∙◌, refl}
@@ -8,11 +9,6 @@ use Rattle.lent_builder.specs.LentEnd.{lent_sizes}
 use Rattle.ends.proofs.EndLaws.{end_short}
 use Rattle.lent_builder.proofs.read_lent_plane.Goals as goal
 use Rattle.lent_builder.proofs.read_lent_plane.Goals.{Start}
-
-abbrev lent : Start → LentPlane
-lent s =
-    let a = s.args in
-    record { rows = a.rows.now; kinds = a.kinds.now; regions = a.regions.now; offsets = a.offsets.now; sizes = a.sizes.now; bytes = a.bytes.now }
 
 pub slice_bounds-work_slices-end : goal.slice_bounds-work_slices-end
 slice_bounds-work_slices-end c = refl
@@ -47,6 +43,6 @@ pub returns-in_err-work_slices : goal.returns-in_err-work_slices
 returns-in_err-work_slices c =
     let p = err_from_is_err_and c.from_residual.result c.from_residual.ensures.1 in
     rw (p.1, p.2) (
-    let e = end_short lent_sizes (lent_policy (lent (goal.at.returns-in_err-work_slices c).Start)) (c.args.plane.now ∷ c.args.spans.now ∷ c.args.upright.now ∷ c.args.slots.now ∷ []) c.args.out.now _ ((sym c.in_err-work_slices.was) ∙ c.work_slices.ensures) in
+    let e = end_short lent_sizes (lent_policy (lists_of c.args.l)) (c.args.plane.now ∷ c.args.spans.now ∷ c.args.upright.now ∷ c.args.slots.now ∷ []) c.args.out.now _ ((sym c.in_err-work_slices.was) ∙ c.work_slices.ensures) in
     record { end = e }
     )

@@ -1,4 +1,5 @@
 -- `lent_records::lent_table` meets its contract.
+use Rattle.lent.specs.Lent.{lists_of}
 use Rattle.std.proofs.lemmas.Result.{err_from_is_err_and}
 use Rattle.std.specs.Prelude.{Ok, ℕ}
 use mathlib.Core.Path.{◌≡◌, sym, ap, ◌∙◌, subst}
@@ -13,30 +14,25 @@ use Rattle.lent_records.proofs.lent_table.Goals as goal
 use Rattle.lent_records.proofs.lent_table.Goals.{In_ok-n, Start}
 use Rattle.model.specs.Refusals.{Reading}
 
-abbrev lent : Start → LentPlane
-lent s =
-    let a = s.args in
-    record { rows = a.rows.now; kinds = a.kinds.now; regions = a.regions.now; offsets = a.offsets.now; sizes = a.sizes.now; bytes = a.bytes.now }
+told : (c : In_ok-n) → Ok (record { plane = plane_in c.load.new.plane c.in_ok-n.n; texts = texts_in c.args.l.bytes.now c.load.new.spans (length c.args.l.offsets.now) }) ≡ lent_of (lists_of c.args.l)
+told c = ap (λ (m : Reading ℕ). loaded_in m c.load.new.plane c.args.l.bytes.now c.load.new.spans (length c.args.l.offsets.now)) (sym c.in_ok-n.was) ∙ c.load.ensures.loaded
 
-told : (c : In_ok-n) → Ok (record { plane = plane_in c.load.new.plane c.in_ok-n.n; texts = texts_in c.args.bytes.now c.load.new.spans (length c.args.offsets.now) }) ≡ lent_of (let a = c.args in record { rows = a.rows.now; kinds = a.kinds.now; regions = a.regions.now; offsets = a.offsets.now; sizes = a.sizes.now; bytes = a.bytes.now })
-told c = ap (λ (m : Reading ℕ). loaded_in m c.load.new.plane c.args.bytes.now c.load.new.spans (length c.args.offsets.now)) (sym c.in_ok-n.was) ∙ c.load.ensures.loaded
-
-held : (c : In_ok-n) → Held c.load.new.plane c.in_ok-n.n c.args.bytes.now c.load.new.spans (length c.args.offsets.now)
-held c = subst (λ (m : Reading ℕ). LoadedHeld m c.load.new.plane c.args.bytes.now c.load.new.spans (length c.args.offsets.now)) c.in_ok-n.was c.load.ensures.held
+held : (c : In_ok-n) → Held c.load.new.plane c.in_ok-n.n c.args.l.bytes.now c.load.new.spans (length c.args.l.offsets.now)
+held c = subst (λ (m : Reading ℕ). LoadedHeld m c.load.new.plane c.args.l.bytes.now c.load.new.spans (length c.args.l.offsets.now)) c.in_ok-n.was c.load.ensures.held
 
 pub plane_table-requires : goal.plane_table-requires
 plane_table-requires c =
-    let few = few_bytes (lent (goal.at.plane_table-requires c).Start) (record { plane = plane_in c.load.new.plane c.in_ok-n.n; texts = texts_in c.args.bytes.now c.load.new.spans (length c.args.offsets.now) }) (told (goal.at.plane_table-requires c).In_ok-n) in
+    let few = few_bytes (lists_of c.args.l) (record { plane = plane_in c.load.new.plane c.in_ok-n.n; texts = texts_in c.args.l.bytes.now c.load.new.spans (length c.args.l.offsets.now) }) (told (goal.at.plane_table-requires c).In_ok-n) in
     (record { held = held (goal.at.plane_table-requires c).In_ok-n; few = few; sheet = c.requires.sheet; room = c.requires.room }, no_name (held (goal.at.plane_table-requires c).In_ok-n) few)
 
 pub returns : goal.returns
 returns c =
     let p = c.plane_table.ensures in
-    record { table = p.table ∙ lent-policy (lent (goal.at.returns c).Start) (record { plane = plane_in c.load.new.plane c.in_ok-n.n; texts = texts_in c.args.bytes.now c.load.new.spans (length c.args.offsets.now) }) (told (goal.at.returns c).In_ok-n); held = p.held }
+    record { table = p.table ∙ lent-policy (lists_of c.args.l) (record { plane = plane_in c.load.new.plane c.in_ok-n.n; texts = texts_in c.args.l.bytes.now c.load.new.spans (length c.args.l.offsets.now) }) (told (goal.at.returns c).In_ok-n); held = p.held }
 
 pub returns-in_err-n : goal.returns-in_err-n
 returns-in_err-n c =
     let p = err_from_is_err_and c.from_residual.result c.from_residual.ensures.1 in
     rw (p.1, p.2) (
-    record { table = not_lent (lent (goal.at.returns-in_err-n c).Start) _ (ap (λ (m : Reading ℕ). loaded_in m c.load.new.plane c.args.bytes.now c.load.new.spans (length c.args.offsets.now)) (sym c.in_err-n.was) ∙ c.load.ensures.loaded); held = tt }
+    record { table = not_lent (lists_of c.args.l) _ (ap (λ (m : Reading ℕ). loaded_in m c.load.new.plane c.args.l.bytes.now c.load.new.spans (length c.args.l.offsets.now)) (sym c.in_err-n.was) ∙ c.load.ensures.loaded); held = tt }
     )

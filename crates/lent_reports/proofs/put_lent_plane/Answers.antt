@@ -1,5 +1,6 @@
 -- `lent_reports::put_lent_plane` meets its contract.
 use mathlib.Core.Path.{refl}
+use Rattle.lent.specs.Lent.{lists_of}
 use Rattle.lent.specs.LentPlane.{LentPlane}
 use Rattle.policies.specs.LentPolicy.{lent_policy}
 use Rattle.print.proofs.WrittenLaws.{written_as}
@@ -13,11 +14,11 @@ use Rattle.lent_reports.proofs.put_lent_plane.Goals.{After-read_lent_plane-state
 
 told : (c : After-read_lent_plane-stated)
     → let a = c.args in
-    let l : LentPlane = record { rows = a.rows.now; kinds = a.kinds.now; regions = a.regions.now; offsets = a.offsets.now; sizes = a.sizes.now; bytes = a.bytes.now } in
+    let l : LentPlane = lists_of a.l in
     Reported (lent_policy l) record_bytes c.read_lent_plane-stated.result c.read_lent_plane-stated.new.out
 told c =
     let a = c.args in
-    let l : LentPlane = record { rows = a.rows.now; kinds = a.kinds.now; regions = a.regions.now; offsets = a.offsets.now; sizes = a.sizes.now; bytes = a.bytes.now } in
+    let l : LentPlane = lists_of a.l in
     end_reported lent_sizes (lent_policy l) _ _ _ _ _ record_bytes (lent_printable l) (search rules) (search rules) c.read_lent_plane-stated.ensures.end
 
 pub slice_bounds-read_lent_plane-end : goal.slice_bounds-read_lent_plane-end

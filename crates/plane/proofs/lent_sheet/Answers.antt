@@ -1,4 +1,5 @@
 -- `plane::lent_sheet` meets its contract.
+use Rattle.lent.specs.Lent.{lists_of}
 use Rattle.std.proofs.lemmas.Result.{err_from_is_err_and}
 use lib.ListN.{length}
 use Rattle.cells.specs.Plane.{TextPlane, plane_in}
@@ -8,20 +9,15 @@ use Rattle.plane.proofs.LentSheetLaws.{not_lent, lent_stated}
 use Rattle.plane.proofs.lent_sheet.Goals as goal
 use Rattle.plane.proofs.lent_sheet.Goals.{Start}
 
-abbrev lent : Start → LentPlane
-lent c =
-    let a = c.args in
-    record { rows = a.rows.now; kinds = a.kinds.now; regions = a.regions.now; offsets = a.offsets.now; sizes = a.sizes.now; bytes = a.bytes.now }
-
 pub returns-in_err-n : goal.returns-in_err-n
 returns-in_err-n c =
     let p = err_from_is_err_and c.from_residual.result c.from_residual.ensures.1 in
-    rw (p.1, p.2) (record { sheet = not_lent (lent (goal.at.returns-in_err-n c).Start) _ c.in_err-n.ensures.loaded; held = tt })
+    rw (p.1, p.2) (record { sheet = not_lent (lists_of c.args.l) _ c.in_err-n.ensures.loaded; held = tt })
 
 pub upright_sheet-requires : goal.upright_sheet-requires
 upright_sheet-requires c = (c.in_ok-n.ensures.held, c.requires.upright)
 
 pub returns : goal.returns
 returns c =
-    let t : TextPlane = record { plane = plane_in c.load.new.plane c.in_ok-n.n; texts = texts_in c.args.bytes.now c.load.new.spans (length c.args.offsets.now) } in
-    record { sheet = lent_stated (lent (goal.at.returns c).Start) t c.in_ok-n.ensures.loaded _ c.upright_sheet.ensures.sheet; held = c.upright_sheet.ensures.held }
+    let t : TextPlane = record { plane = plane_in c.load.new.plane c.in_ok-n.n; texts = texts_in c.args.l.bytes.now c.load.new.spans (length c.args.l.offsets.now) } in
+    record { sheet = lent_stated (lists_of c.args.l) t c.in_ok-n.ensures.loaded _ c.upright_sheet.ensures.sheet; held = c.upright_sheet.ensures.held }
