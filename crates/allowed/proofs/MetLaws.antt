@@ -23,7 +23,7 @@ use Rattle.cells.specs.Plane.{Plane, place_at, cell_at, plane_in}
 use Rattle.cell_tests.specs.SheetCells.{region_at}
 use Rattle.cell_tests.proofs.CellLaws.{region_below, region-right, region-by}
 use Rattle.allowed.specs.Apart.{twice, once, meet_row, apart_from, all_apart}
-use Rattle.allowed.specs.Met.{met, met_in}
+use Rattle.allowed.specs.Met.{met, met_above, met_in}
 
 -- the region's number that a slice holds
 abbrev number_at : List ℕ → ℕ → ℕ → ℕ
@@ -54,9 +54,18 @@ region_number_lem d rows y x a e = by_flag (ltb y rows) (λ t. inside (ltb-true 
         (λ t. refused-ok (region-right d rows y x h (ltb-false x (get_or d y 0) t) ∙ sym e))
 
 -- nothing is in an empty list
-pub not_empty : (a : ℕ) → false ≡ one_of a []
+not_empty : (a : ℕ) → false ≡ one_of a []
 unfolding one_of
 not_empty a = refl
+
+-- in the row above
+pub above_row : (d : List ℕ) (y x n a : ℕ) {t : Bool} → 0 < y → t ≡ one_of a (met d (y - 1) x n []) → t ≡ one_of a (met_above d y x n)
+above_row d zero x n a h e = absurd (omega arith)
+above_row d (suc y) x n a h e = let z : suc y - 1 ≡ y = omega arith in rw z at e
+
+pub no_row : (d : List ℕ) (y x n a : ℕ) → y ≤ 0 → false ≡ one_of a (met_above d y x n)
+no_row d zero x n a h = not_empty a
+no_row d (suc y) x n a h = absurd (omega arith)
 
 or_turn : (a b c : Bool) → (a || (b || c)) ≡ (b || a || c)
 or_turn a b c = sym (or_assoc a b c) ∙ ap (λ t. t || c) (or_comm a b)

@@ -1,24 +1,25 @@
 // The tests on the cells of an upright sheet that tell whether its clauses have allowed values.
 #![tactic(auto)]
 
-ghost use Rattle.std.specs.Prelude.{true, [], ◌≡◌, ◌+◌, ◌≤◌, ◌<◌, length};
+ghost use Rattle.std.specs.Prelude.{[], ◌≡◌, ◌+◌, ◌≤◌, ◌<◌};
 ghost use Rattle.lists.specs.OneOf.{one_of};
-ghost use Rattle.model.specs.Limits.{plane_rows, plane_cells, plane_size};
-ghost use Rattle.cells.specs.Plane.{plane_in, PlaneFits};
+ghost use Rattle.model.specs.Limits.{plane_rows, plane_cells};
+ghost use Rattle.cells.specs.Slices.{plane_of};
 ghost use Rattle.allowed.specs.Apart.{meet_row, all_apart};
 ghost use Rattle.allowed.specs.Allowed.{allowed_by, allowed_two, allowed_three, allowed_of};
 ghost use Rattle.allowed.specs.Met.{met, met_above, met_in};
 
+use cells::plane::Plane;
 use model::Refusal;
 use model::limits::{PLANE_CELLS, PLANE_ROWS};
 
 // Whether region a is among the n cells of row y from column x on.
-fn is_among(plane: &[u32], y: usize, x: usize, n: usize, a: usize) -> bool
-    requires { (plane_size ≤ length plane.now) × (y < plane_rows) × (x + n ≤ plane_cells) }
-    ensures { result ≡ one_of a (met plane.now y x n []) }
+fn is_among(plane: Plane, y: usize, x: usize, n: usize, a: usize) -> bool
+    requires { (y < plane_rows) × (x + n ≤ plane_cells) }
+    ensures { result ≡ one_of a (met plane.entry.cells.now y x n []) }
 {
     for i in 0..n {
-        if (plane[PLANE_ROWS + y * PLANE_CELLS + (x + i)] / 8) as usize == a {
+        if (plane.cells[PLANE_ROWS + y * PLANE_CELLS + (x + i)] / 8) as usize == a {
             return true;
         }
     }
@@ -26,36 +27,27 @@ fn is_among(plane: &[u32], y: usize, x: usize, n: usize, a: usize) -> bool
 }
 
 // Whether region a stands before the i-th of n cells of row y, or in the row above.
-fn is_met(plane: &[u32], y: usize, x: usize, n: usize, i: usize, a: usize, above: bool) -> bool
-    requires plane_size_in_bounds { (plane_size ≤ length plane.now) × (y < plane_rows) × (x + n ≤ plane_cells) × (i ≤ n) }
-    requires le_y { above ≡ true → 1 ≤ y }
-    ensures { result ≡ one_of a (met plane.now y x i (met_above above plane.now y x n)) }
+fn is_met(plane: Plane, y: usize, x: usize, n: usize, i: usize, a: usize) -> bool
+    requires { (y < plane_rows) × (x + n ≤ plane_cells) × (i ≤ n) }
+    ensures { result ≡ one_of a (met plane.entry.cells.now y x i (met_above plane.entry.cells.now y x n)) }
 {
     if is_among(plane, y, x, i, a) {
         return true;
     }
-    if above {
+    if 0 < y {
         return is_among(plane, y - 1, x, n, a);
     }
     false
 }
 
-// Whether no region stands twice in the n cells of row y from column x on nor, if above, in the row above.
-fn row_apart(
-    plane: &[u32],
-    rows: usize,
-    y: usize,
-    x: usize,
-    n: usize,
-    above: bool,
-) -> Result<bool, Refusal>
-    requires plane_fits { PlaneFits plane.now rows × (y < plane_rows) × (x + n ≤ plane_cells) }
-    requires le_y { above ≡ true → 1 ≤ y }
-    ensures { meet_row (plane_in plane.now rows) y x n (met_above above plane.now y x n) ≡ met_in result (met plane.now y x n (met_above above plane.now y x n)) }
+// Whether no region stands twice in the n cells of row y from column x on and in those above them.
+fn row_apart(plane: Plane, y: usize, x: usize, n: usize) -> Result<bool, Refusal>
+    requires { (y < plane_rows) × (x + n ≤ plane_cells) }
+    ensures { meet_row (plane_of plane.entry) y x n (met_above plane.entry.cells.now y x n) ≡ met_in result (met plane.entry.cells.now y x n (met_above plane.entry.cells.now y x n)) }
 {
     for i in 0..n {
-        let a = cell_tests::region_at(plane, rows, y, x + i)?;
-        if is_met(plane, y, x, n, i, a, above) {
+        let a = cell_tests::region_at(plane, y, x + i)?;
+        if is_met(plane, y, x, n, i, a) {
             return Ok(false);
         }
     }
@@ -63,17 +55,18 @@ fn row_apart(
 }
 
 // Whether no region stands twice in rows 0 and 1, in the n columns from x on.
-fn two_apart(plane: &[u32], rows: usize, x: usize, n: usize) -> Result<bool, Refusal>
-    requires { PlaneFits plane.now rows × (x + n ≤ plane_cells) }
-    ensures { result ≡ all_apart (plane_in plane.now rows) 2 x n }
+fn two_apart(plane: Plane, x: usize, n: usize) -> Result<bool, Refusal>
+    requires { x + n ≤ plane_cells }
+    ensures { result ≡ all_apart (plane_of plane.entry) 2 x n }
 {
-    let t = row_apart(plane, rows, 0, x, n, false)?;
+    let t = row_apart(plane, 0, x, n)?;
     if t {
-        return row_apart(plane, rows, 1, x, n, true);
+        return row_apart(plane, 1, x, n);
     }
     Ok(false)
 }
 
+// A table of facts, and no switch.
 // Whether there are allowed values, by the five facts for two clause rows.
 fn allowed_by(inputs: bool, has: bool, several: bool, outputs: bool, apart: bool) -> bool
     ensures { result ≡ allowed_by inputs has several outputs apart }
@@ -94,43 +87,43 @@ fn allowed_by(inputs: bool, has: bool, several: bool, outputs: bool, apart: bool
 }
 
 // With two clause rows.
-fn allowed_two(plane: &[u32], rows: usize, n: usize, m: usize) -> Result<bool, Refusal>
-    requires { PlaneFits plane.now rows × (n + 1 + m ≤ plane_cells) }
-    ensures { result ≡ allowed_two (plane_in plane.now rows) n m }
+fn allowed_two(plane: Plane, n: usize, m: usize) -> Result<bool, Refusal>
+    requires { n + 1 + m ≤ plane_cells }
+    ensures { result ≡ allowed_two (plane_of plane.entry) n m }
 {
-    let inputs = cell_tests::columns_are(plane, rows, true, 0, 0, n)?;
-    let outputs = cell_tests::columns_are(plane, rows, true, 0, n + 1, m)?;
-    let apart = two_apart(plane, rows, n + 1, m)?;
+    let inputs = cell_tests::columns_are(plane, true, 0, 0, n)?;
+    let outputs = cell_tests::columns_are(plane, true, 0, n + 1, m)?;
+    let apart = two_apart(plane, n + 1, m)?;
     Ok(allowed_by(inputs, 0 < n, 1 < m, outputs, apart))
 }
 
 // With three clause rows.
-fn allowed_three(plane: &[u32], rows: usize, n: usize, m: usize) -> Result<bool, Refusal>
-    requires { PlaneFits plane.now rows × (n + 1 + m ≤ plane_cells) }
-    ensures { result ≡ allowed_three (plane_in plane.now rows) n m }
+fn allowed_three(plane: Plane, n: usize, m: usize) -> Result<bool, Refusal>
+    requires { n + 1 + m ≤ plane_cells }
+    ensures { result ≡ allowed_three (plane_of plane.entry) n m }
 {
-    if !cell_tests::columns_are(plane, rows, false, 1, 0, n)? {
+    if !cell_tests::columns_are(plane, false, 1, 0, n)? {
         return Err(Refusal::InvalidInputExpressions);
     }
-    if !cell_tests::columns_are(plane, rows, false, 1, n + 1, m)? {
+    if !cell_tests::columns_are(plane, false, 1, n + 1, m)? {
         return Err(Refusal::InvalidOutputExpressions);
     }
     Ok(true)
 }
 
 // Whether n inputs and m outputs have allowed values under h clause rows.
-pub fn allowed(plane: &[u32], rows: usize, n: usize, m: usize, h: usize) -> Result<bool, Refusal>
-    requires { PlaneFits plane.now rows × (n + 1 + m ≤ plane_cells) }
-    ensures { result ≡ allowed_of (plane_in plane.now rows) n m h }
+pub fn allowed(plane: Plane, n: usize, m: usize, h: usize) -> Result<bool, Refusal>
+    requires { n + 1 + m ≤ plane_cells }
+    ensures { result ≡ allowed_of (plane_of plane.entry) n m h }
 {
     if h == 1 {
         return Ok(false);
     }
     if h == 2 {
-        return allowed_two(plane, rows, n, m);
+        return allowed_two(plane, n, m);
     }
     if h == 3 {
-        return allowed_three(plane, rows, n, m);
+        return allowed_three(plane, n, m);
     }
     Err(Refusal::ClauseRows(h))
 }

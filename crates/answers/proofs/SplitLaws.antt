@@ -23,7 +23,7 @@ printed-values s t d {r} e =
     let z : r.bytes - 0 ≡ r.bytes = omega arith in
     ap (λ (k : ℕ). values_line (take k d) (take (r.to - r.from) (drop r.from t))) z ∙ sym (ap (λ (s : Reading (Option Rewritten)). printed (answered s t d)) e)
 
-pub part_most_lem : (n f : ℕ) (l : List ℕ) → length (take n (drop f l)) ≤ length l
+part_most_lem : (n f : ℕ) (l : List ℕ) → length (take n (drop f l)) ≤ length l
 part_most_lem n f l = simp (length-take, length-drop) (omega arith)
 
 pub parts_most : (s : Reading (Option Rewritten)) (t d : List ℕ) {r : Rewritten} → s ≡ Ok (Some r)

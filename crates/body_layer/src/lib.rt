@@ -1,15 +1,17 @@
 // The layer BODY of a canvas, from THIN.
 #![tactic(auto)]
 
-ghost use Rattle.std.specs.Prelude.{◌≡◌, ◌+◌, ◌<◌, ◌≤◌, ◌^◌, length, get_or, set};
+ghost use Rattle.std.specs.Prelude.{◌≡◌, ◌+◌, ◌*◌, ◌<◌, ◌≤◌, ◌^◌, length, get_or, set};
 ghost use Rattle.lists.specs.Line.{store_at};
 ghost use Rattle.lists.specs.Picture.{canvas};
 ghost use Rattle.lists.specs.Turns.{turns};
-ghost use Rattle.thin_layer.specs.Sizes.{LayersOf, BodyIn};
-ghost use Rattle.body_layer.specs.Body.{top_of, body_code, shaded_code, body_layers, body_picture, shaded_picture};
+ghost use Rattle.model.specs.Layers.{picture_of};
+ghost use Rattle.thin_layer.specs.Sizes.{Bounded, BodyIn};
+ghost use Rattle.body_layer.specs.Body.{top_of, body_code, shaded_code, body_picture, shaded_picture};
 
 use model::Rect;
 use model::box_drawing::*;
+use model::layer::Layer;
 
 // A character of the body's top row.
 fn top_code(t: u32) -> u32
@@ -50,41 +52,18 @@ fn shaded_code(top: usize, y: usize, g: u32) -> u32
     g
 }
 
-// The four layers of a character in row y, with BODY and GRID as the BODY pass leaves them.
-fn body(c: [u32; 4], top: usize, y: usize) -> [u32; 4]
-    requires { y < 2 ^ 32 }
-    ensures { result ≡ body_layers top y c }
-{
-    let t = c[1];
-    let b = c[2];
-    let g = c[3];
-    let mut out = c;
-    out[2] = body_code(top, y, t, b);
-    out[3] = shaded_code(top, y, g);
-    out
-}
-
-fn body_at(
-    text: &[u32],
-    thins: &[u32],
-    bodies: &mut [u32],
-    grid: &mut [u32],
-    at: usize,
-    top: usize,
-    y: usize,
-)
-    requires { (at < length text.now) × ((at < length thins.now) × ((at < length bodies.old) × ((at < length grid.old) × (y < 2 ^ 32)))) }
+// The character at a place of row y, in BODY and in GRID.
+fn body_at(thins: &[u32], bodies: &mut [u32], grid: &mut [u32], at: usize, top: usize, y: usize)
+    requires { (at < length thins.now) × (at < length bodies.old) × (at < length grid.old) × (y < 2 ^ 32) }
     ensures bodies_after { bodies.new ≡ set bodies.old at (body_code top y (get_or thins.now at 0) (get_or bodies.old at 0)) }
     ensures grid_after { grid.new ≡ set grid.old at (shaded_code top y (get_or grid.old at 0)) }
 {
-    let c = body([text[at], thins[at], bodies[at], grid[at]], top, y);
-    bodies[at] = c[2];
-    grid[at] = c[3];
+    bodies[at] = body_code(top, y, thins[at], bodies[at]);
+    grid[at] = shaded_code(top, y, grid[at]);
 }
 
 // Row y of the body's columns, n characters from `base` on.
 fn body_row(
-    text: &[u32],
     thins: &[u32],
     bodies: &mut [u32],
     grid: &mut [u32],
@@ -93,34 +72,29 @@ fn body_row(
     top: usize,
     y: usize,
 )
-    requires { (base + n ≤ length text.now) × ((base + n ≤ length thins.now) × ((base + n ≤ length bodies.old) × ((base + n ≤ length grid.old) × (y < 2 ^ 32)))) }
+    requires { (base + n ≤ length thins.now) × (base + n ≤ length bodies.old) × (base + n ≤ length grid.old) × (y < 2 ^ 32) }
     ensures bodies_after { bodies.new ≡ turns (store_at (λ k. base + k) (λ k. body_code top y (get_or thins.now (base + k) 0))) n bodies.old }
     ensures grid_after { grid.new ≡ turns (store_at (λ k. base + k) (λ k. shaded_code top y)) n grid.old }
 {
     for k in 0..n {
-        body_at(text, thins, bodies, grid, base + k, top, y);
+        body_at(thins, bodies, grid, base + k, top, y);
     }
 }
 
 // BODY of THIN, and ░ above it in GRID.
-pub fn make_body(
-    text: &[u32],
-    thins: &[u32],
-    bodies: &mut [u32],
-    grid: &mut [u32],
-    width: usize,
-    rows: usize,
-    r: Rect,
-)
-    requires { LayersOf width rows text.now thins.now bodies.old grid.old × BodyIn width rows r }
-    ensures bodies_after { canvas width rows bodies.new ≡ body_picture r (canvas width rows thins.now) (canvas width rows bodies.old) }
-    ensures grid_after { canvas width rows grid.new ≡ shaded_picture r (canvas width rows grid.old) }
+pub fn make_body(thins: Layer, bodies: &mut [u32], grid: &mut [u32], r: Rect)
+    requires sizes { Bounded thins.width thins.height × (thins.height * thins.width ≤ length bodies.old) × (thins.height * thins.width ≤ length grid.old) }
+    requires body { BodyIn thins.width thins.height r }
+    ensures bodies_after { canvas thins.entry.width thins.entry.height bodies.new ≡ body_picture r (picture_of thins.entry) (canvas thins.entry.width thins.entry.height bodies.old) }
+    ensures grid_after { canvas thins.entry.width thins.entry.height grid.new ≡ shaded_picture r (canvas thins.entry.width thins.entry.height grid.old) }
 {
+    let codes = thins.codes;
+    let width = thins.width;
     let left = r.left;
     let top = r.top;
     let bottom = r.bottom;
     let n = r.right - left;
     for y in 0..bottom {
-        body_row(text, thins, bodies, grid, y * width + left, n, top, y);
+        body_row(codes, bodies, grid, y * width + left, n, top, y);
     }
 }

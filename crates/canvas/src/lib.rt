@@ -1,17 +1,19 @@
 // From the bytes of a sheet to its outline and its four layers.
 #![tactic(auto)]
 
-ghost use Rattle.std.specs.Prelude.{◌≡◌};
+ghost use Rattle.std.specs.Prelude.{◌≡◌, ◌*◌, ◌≤◌, length};
 ghost use Rattle.lists.specs.Picture.{canvas};
 ghost use Rattle.body_layer.specs.Body.{body_picture};
 ghost use Rattle.grid_layer.specs.Grid.{grid_picture};
-ghost use Rattle.thin_layer.specs.Sizes.{LayersOf, BodyIn};
+ghost use Rattle.model.specs.Layers.{picture_of};
+ghost use Rattle.thin_layer.specs.Sizes.{Bounded, BodyIn};
 ghost use Rattle.thin_layer.specs.Thin.{thin_picture};
 ghost use Rattle.sheet_rows.specs.Rows.{rows_at};
 ghost use Rattle.utf8.specs.Utf8.{on_text};
 ghost use Rattle.canvas.specs.Layers.{sheet_of};
 ghost use Rattle.canvas.specs.Drawn.{outline_in, LayersIn, Ended, Room};
 
+use model::layer::Layer;
 use model::{Rect, Refusal};
 use outline::Outline;
 
@@ -25,23 +27,26 @@ pub struct Drawing {
 }
 
 // THIN of TEXT, BODY of THIN, GRID of BODY.
-fn make_layers(
-    text: &[u32],
-    thins: &mut [u32],
-    bodies: &mut [u32],
-    grid: &mut [u32],
-    width: usize,
-    rows: usize,
-    r: Rect,
-)
-    requires { LayersOf width rows text.now thins.old bodies.old grid.old × BodyIn width rows r }
-    ensures thin { canvas width rows thins.new ≡ thin_picture width rows (canvas width rows text.now) }
-    ensures body { canvas width rows bodies.new ≡ body_picture r (thin_picture width rows (canvas width rows text.now)) (canvas width rows bodies.old) }
-    ensures grid { canvas width rows grid.new ≡ grid_picture r (body_picture r (thin_picture width rows (canvas width rows text.now)) (canvas width rows bodies.old)) }
+fn make_layers(text: Layer, thins: &mut [u32], bodies: &mut [u32], grid: &mut [u32], r: Rect)
+    requires sizes { Bounded text.width text.height × (text.height * text.width ≤ length thins.old) × (text.height * text.width ≤ length bodies.old) × (text.height * text.width ≤ length grid.old) }
+    requires body { BodyIn text.width text.height r }
+    ensures thin { canvas text.entry.width text.entry.height thins.new ≡ thin_picture text.entry.width text.entry.height (picture_of text.entry) }
+    ensures body { canvas text.entry.width text.entry.height bodies.new ≡ body_picture r (thin_picture text.entry.width text.entry.height (picture_of text.entry)) (canvas text.entry.width text.entry.height bodies.old) }
+    ensures grid { canvas text.entry.width text.entry.height grid.new ≡ grid_picture r (body_picture r (thin_picture text.entry.width text.entry.height (picture_of text.entry)) (canvas text.entry.width text.entry.height bodies.old)) }
 {
-    thin_layer::make_thin(text, thins, bodies, grid, width, rows);
-    body_layer::make_body(text, thins, bodies, grid, width, rows, r);
-    grid_layer::make_grid(text, thins, bodies, grid, width, rows, r);
+    thin_layer::make_thin(text, thins);
+    let thin = Layer {
+        codes: thins,
+        width: text.width,
+        height: text.height,
+    };
+    body_layer::make_body(thin, bodies, grid, r);
+    let body = Layer {
+        codes: bodies,
+        width: text.width,
+        height: text.height,
+    };
+    grid_layer::make_grid(body, grid, r);
 }
 
 // A refusal of a text, which number 1 comes before.
@@ -72,8 +77,13 @@ pub fn draw_sheet(
         Err(r) => return Err(behind_utf8(code_points::validate(s), r)),
     };
     line_checks::validate_lines(s, c.valid).map_err(Refusal::InvalidUtf8)?;
-    let outline = outline::recognize_outline(text, c.columns, c.rows)?;
-    make_layers(text, thins, bodies, grid, c.columns, c.rows, outline.body);
+    let layer = Layer {
+        codes: text,
+        width: c.columns,
+        height: c.rows,
+    };
+    let outline = outline::recognize_outline(layer)?;
+    make_layers(layer, thins, bodies, grid, outline.body);
     Ok(Drawing {
         rows: c.rows,
         columns: c.columns,

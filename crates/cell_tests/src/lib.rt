@@ -3,41 +3,33 @@
 
 ghost use Rattle.std.specs.Prelude.{◌≡◌, ◌+◌, ◌≤◌, ◌<◌};
 ghost use Rattle.model.specs.Limits.{plane_rows};
-ghost use Rattle.cells.specs.Plane.{plane_in, PlaneFits};
+ghost use Rattle.cells.specs.Slices.{plane_of};
 ghost use Rattle.cell_tests.specs.SheetCells.{region_at, column_is, columns_are};
 
+use cells::plane::Plane;
 use model::Refusal;
 
 // The region of the cell in row y, column x.
-pub fn region_at(plane: &[u32], rows: usize, y: usize, x: usize) -> Result<usize, Refusal>
-    requires { PlaneFits plane.now rows }
-    ensures { result ≡ region_at (plane_in plane.now rows) y x }
+pub fn region_at(plane: Plane, y: usize, x: usize) -> Result<usize, Refusal>
+    ensures { result ≡ region_at (plane_of plane.entry) y x }
 {
-    if rows <= y {
+    if plane.rows <= y || plane.width(y) <= x {
         return Err(Refusal::CellOutOfRange(y, x));
     }
-    if plane[y] as usize <= x {
-        return Err(Refusal::CellOutOfRange(y, x));
-    }
-    match cells::cell_at(plane, y, x).region() {
-        Some(r) => Ok(r),
-        None => Err(Refusal::CellNotRegion(y, x)),
-    }
+    plane
+        .cell(y, x)
+        .region()
+        .ok_or(Refusal::CellNotRegion(y, x))
 }
 
+// `joined` is what is asked, a value that the answer is compared with.
 // Whether the cells of rows top and top + 1 in column x are of one region (joined), or of two.
-pub fn column_is(
-    plane: &[u32],
-    rows: usize,
-    joined: bool,
-    top: usize,
-    x: usize,
-) -> Result<bool, Refusal>
-    requires { PlaneFits plane.now rows × (top < plane_rows) }
-    ensures { result ≡ column_is joined (plane_in plane.now rows) top x }
+pub fn column_is(plane: Plane, joined: bool, top: usize, x: usize) -> Result<bool, Refusal>
+    requires { top < plane_rows }
+    ensures { result ≡ column_is joined (plane_of plane.entry) top x }
 {
-    let a = region_at(plane, rows, top, x)?;
-    let b = region_at(plane, rows, top + 1, x)?;
+    let a = region_at(plane, top, x)?;
+    let b = region_at(plane, top + 1, x)?;
     if a == b {
         return Ok(joined);
     }
@@ -46,18 +38,17 @@ pub fn column_is(
 
 // So in each of the n columns from x on.
 pub fn columns_are(
-    plane: &[u32],
-    rows: usize,
+    plane: Plane,
     joined: bool,
     top: usize,
     x: usize,
     n: usize,
 ) -> Result<bool, Refusal>
-    requires { PlaneFits plane.now rows × (top < plane_rows) × (x + n ≤ 128) }
-    ensures { result ≡ columns_are joined (plane_in plane.now rows) top x n }
+    requires { (top < plane_rows) × (x + n ≤ 128) }
+    ensures { result ≡ columns_are joined (plane_of plane.entry) top x n }
 {
     for i in 0..n {
-        if !column_is(plane, rows, joined, top, x + i)? {
+        if !column_is(plane, joined, top, x + i)? {
             return Ok(false);
         }
     }

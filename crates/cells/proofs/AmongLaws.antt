@@ -6,16 +6,12 @@ use native.Mathlib.Omega.{arith}
 use lib.ListN.{get_or}
 use Rattle.lists.proofs.AllLaws.{All, all-at}
 use Rattle.lists.proofs.RunLaws.{get_or-build}
-use Rattle.model.specs.declared.Cell.{Cell}
 use Rattle.model.specs.declared.Cell.TheVariants.{Region, MainDoubleCrossing}
+use Rattle.cells.specs.Held.{Numbered}
 use Rattle.cells.specs.Plane.{Plane, cell_at, cells_in, row_in, plane_in}
 use Rattle.cells.proofs.PlaneLaws.{length-cells, length-plane}
 
--- a cell that is a region has a number below n
-abbrev pub Numbered : ℕ → Cell → Type 0
-Numbered n c = (r : ℕ) → c ≡ Region r → r < n
-
--- so have all cells of a plane
+-- all cells of a plane that are regions have numbers below n
 abbrev pub Among : ℕ → Plane → Type 0
 Among n P = All (All (Numbered n)) P
 

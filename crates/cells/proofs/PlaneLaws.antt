@@ -89,10 +89,6 @@ module _ (d d' : List ℕ) (row : ℕ) (k : KeptBefore d d' row) where
         cells = λ j l. let z : get_or d' j 0 ≡ get_or d j 0 = k.same j (omega (arith, p.rows)) in rw z (p.cells j l);
       }
 
--- the first rows of a plane are a plane
-pub fewer_rows : (d : List ℕ) (m n : ℕ) → m ≤ n → PlaneFits d n → PlaneFits d m
-fewer_rows d m n h p = record { room = p.room; rows = omega (arith, p.rows); cells = λ row l. p.cells row (omega arith) }
-
 pub kept_refl : (d : List ℕ) (row : ℕ) → KeptBefore d d row
 kept_refl d row = record { same = λ j l. refl }
 

@@ -1,3 +1,4 @@
 pub mod Plane
 pub mod Spans
 pub mod Held
+pub mod Slices

@@ -1,23 +1,18 @@
 // A plane in a slice of numbers: 64 lengths of rows, then 64 places a row.
+// The slice of a plane is lent by the caller, in C too: its numbers and its size are fixed.
 #![tactic(auto)]
 
-ghost use Rattle.std.specs.Prelude.{◌≡◌, [], ◌∷◌, ◌++◌, ◌+◌, ◌*◌, ◌≤◌, ◌<◌, length};
+ghost use Rattle.std.specs.Prelude.{◌≡◌, [], ◌∷◌, ◌++◌, ◌+◌, ◌≤◌, ◌<◌, length};
 ghost use Rattle.model.specs.Cells.{Small};
 ghost use Rattle.model.specs.Limits.{plane_rows, plane_cells, plane_size};
-ghost use Rattle.cells.specs.Spans.{offset_at, length_at, text_at};
-ghost use Rattle.cells.specs.Plane.{cell_at, cells_in, plane_in, PlaneFits, KeptBefore};
+ghost use Rattle.cells.specs.Plane.{cells_in, plane_in, PlaneFits, KeptBefore};
+
+pub mod plane;
+pub mod text_plane;
+pub mod texts;
 
 use model::Cell;
 use model::limits::{PLANE_CELLS, PLANE_ROWS};
-
-// Cell i of a row.
-pub fn cell_at(plane: &[u32], row: usize, i: usize) -> Cell
-    requires { (row < plane_rows) × (i < plane_cells) × (plane_size ≤ length plane.now) }
-    ensures cell { result ≡ cell_at plane.now row i }
-    ensures small { Small result }
-{
-    Cell::from(plane[PLANE_ROWS + row * PLANE_CELLS + i])
-}
 
 // Puts a cell behind the first i of a row.
 pub fn put_cell(plane: &mut [u32], row: usize, i: usize, c: Cell)
@@ -35,14 +30,4 @@ pub fn end_row(plane: &mut [u32], row: usize, n: usize)
     ensures fits { PlaneFits plane.new (row + 1) }
 {
     plane[row] = n as u32;
-}
-
-// The text of region k.
-pub fn text_at<'a, 'b>(bytes: &'a [u8], spans: &'b [u32], k: usize) -> &'a [u8]
-    requires { (k * 2 + 2 ≤ length spans.now) × (offset_at spans.now k + length_at spans.now k ≤ length bytes.now) }
-    ensures { result.now ≡ text_at bytes.now spans.now k }
-{
-    let from = spans[k * 2] as usize;
-    let to = from + spans[k * 2 + 1] as usize;
-    &bytes[from..to]
 }

@@ -1,6 +1,6 @@
 -- Looking for the first cell of a kind: in a row, and row by row.
-use Rattle.std.specs.Prelude.{Ok, Err, Option, None, Some}
-use Rattle.std.specs.Option.{is_some, ok_or}
+use Rattle.std.specs.Prelude.{Option, None, Some}
+use Rattle.std.specs.Option.{is_some}
 use mathlib.Core.Path.{◌≡◌, refl, sym, ◌∙◌}
 use mathlib.Core.Bool.{true, false}
 use mathlib.Core.List.{List}
@@ -11,7 +11,6 @@ use lib.ListN.{get_or, drop}
 use Rattle.lists.proofs.RunLaws.{drop-build, drop_build_end}
 use Rattle.model.specs.Cells.{same_kind}
 use Rattle.model.specs.declared.Cell.{Cell}
-use Rattle.model.specs.declared.Refusal.{Refusal}
 use Rattle.cells.specs.Plane.{cell_at, cells_in, row_in, plane_in}
 use Rattle.clauses.specs.declared.Place.{Place}
 use Rattle.clauses.specs.SheetCells.{place_in_row, place_from, place_of}
@@ -71,15 +70,6 @@ nowhere_in_column rows c e = rw e tt
 -- column e, counted from the one behind column n
 pub column-behind : (s : Option Place) (rows n e : ℕ) → n < e → SpotInColumn s rows e → SpotInColumn s rows (n + 1 + (e - (n + 1)))
 column-behind s rows n e h p = let z : n + 1 + (e - (n + 1)) ≡ e = omega arith in rw z p
-
--- a place, or a refusal where there is none
-pub spot_there : (s : Option Place) (r : Refusal) {p : Place} → Ok p ≡ ok_or s r → s ≡ Some p
-spot_there (Some q) r e = cc
-spot_there None r e = cc
-
-pub spot_missing : (s : Option Place) (r : Refusal) {d : Refusal} → Err d ≡ ok_or s r → (s ≡ None) × (d ≡ r)
-spot_missing (Some q) r e = cc
-spot_missing None r e = (refl, cc)
 
 -- whether there is one
 pub spot_is : (s : Option Place) → is_some s ≡ true → (p : Place) × (s ≡ Some p)

@@ -3,13 +3,15 @@
 
 ghost use Rattle.std.specs.Prelude.{◌≡◌, ◌+◌, ◌≤◌, ◌<◌};
 ghost use Rattle.model.specs.Limits.{plane_rows, plane_cells};
-ghost use Rattle.cells.specs.Plane.{plane_in, row_in, PlaneFits};
+ghost use Rattle.cells.specs.Plane.{row_in};
+ghost use Rattle.cells.specs.Slices.{plane_of};
 ghost use Rattle.cell_tests.specs.SheetCells.{width_of};
 ghost use Rattle.clauses.specs.SheetCells.{place_in_row, place_of};
 ghost use Rattle.clauses.specs.Clauses.{outputs_end};
 ghost use Rattle.clauses.specs.Shape.{notes_at, inputs_fine, clauses_at, shape_of, sizes_of, checked_shape};
 ghost use Rattle.clauses.specs.Told.{SpotWithin, SpotInColumn, NotesFit, ShapeFits, ShapedFits};
 
+use cells::plane::Plane;
 use layouts::Layout;
 use model::{Cell, Refusal};
 
@@ -21,13 +23,13 @@ pub struct Place {
 }
 
 // The first cell of a kind in row y.
-fn spot_in_row(plane: &[u32], y: usize, kind: Cell) -> Option<Place>
-    requires { PlaneFits plane.now (y + 1) }
-    ensures spot { result ≡ place_in_row kind y 0 (row_in plane.now y) }
+fn spot_in_row(plane: Plane, y: usize, kind: Cell) -> Option<Place>
+    requires { y < plane.rows }
+    ensures spot { result ≡ place_in_row kind y 0 (row_in plane.entry.cells.now y) }
     ensures within { SpotWithin result (y + 1) }
 {
-    for x in 0..plane[y] as usize {
-        if kind.is_same_kind(cells::cell_at(plane, y, x)) {
+    for x in 0..plane.width(y) {
+        if kind.is_same_kind(plane.cell(y, x)) {
             return Some(Place { row: y, col: x });
         }
     }
@@ -35,12 +37,11 @@ fn spot_in_row(plane: &[u32], y: usize, kind: Cell) -> Option<Place>
 }
 
 // The first cell of a kind, row by row.
-fn spot_of(plane: &[u32], rows: usize, kind: Cell) -> Option<Place>
-    requires { PlaneFits plane.now rows }
-    ensures spot { result ≡ place_of kind (plane_in plane.now rows) }
-    ensures within { SpotWithin result rows }
+fn spot_of(plane: Plane, kind: Cell) -> Option<Place>
+    ensures spot { result ≡ place_of kind (plane_of plane.entry) }
+    ensures within { SpotWithin result plane.entry.rows }
 {
-    for y in 0..rows {
+    for y in 0..plane.rows {
         let spot = spot_in_row(plane, y, kind);
         if spot.is_some() {
             return spot;
@@ -58,29 +59,28 @@ pub struct Notes {
 }
 
 // The cells of row 0.
-fn width(plane: &[u32], rows: usize) -> usize
-    requires { PlaneFits plane.now rows }
-    ensures { (result ≡ width_of (plane_in plane.now rows) 0) × (result ≤ plane_cells) }
+fn width(plane: Plane) -> usize
+    ensures { (result ≡ width_of (plane_of plane.entry) 0) × (result ≤ plane_cells) }
 {
-    if rows == 0 {
+    if plane.rows == 0 {
         return 0;
     }
-    plane[0] as usize
+    plane.width(0)
 }
 
 // The annotations right of a crossing in row y, column x.
-fn notes_behind(plane: &[u32], rows: usize, y: usize, x: usize) -> Result<Notes, Refusal>
-    requires { PlaneFits plane.now rows × (y < rows) × (x ≤ plane_cells) }
-    ensures notes { result ≡ notes_at (plane_in plane.now rows) (Some (record { row = y; col = x })) }
-    ensures fit { NotesFit result rows x }
+fn notes_behind(plane: Plane, y: usize, x: usize) -> Result<Notes, Refusal>
+    requires { (y < plane.rows) × (x ≤ plane_cells) }
+    ensures notes { result ≡ notes_at (plane_of plane.entry) (Some (record { row = y; col = x })) }
+    ensures fit { NotesFit result plane.entry.rows x }
 {
-    let w = width(plane, rows);
+    let w = width(plane);
     if w <= x {
         return Err(Refusal::PlaneMalformed);
     }
     let k = w - (x + 1);
-    passes::pass_row(plane, rows, 0, x + 1, k)?;
-    passes::pass_rows(plane, rows, y + 1, x + 1, k)?;
+    passes::pass_row(plane, 0, x + 1, k)?;
+    passes::pass_rows(plane, y + 1, x + 1, k)?;
     Ok(Notes {
         count: k,
         col: x + 1,
@@ -89,22 +89,23 @@ fn notes_behind(plane: &[u32], rows: usize, y: usize, x: usize) -> Result<Notes,
 }
 
 // The annotations, where a crossing in column c stands before them.
-fn notes_at(plane: &[u32], rows: usize, spot: Option<Place>, c: usize) -> Result<Notes, Refusal>
-    requires { PlaneFits plane.now rows × SpotInColumn spot rows c × (c ≤ plane_cells) }
-    ensures notes { result ≡ notes_at (plane_in plane.now rows) spot }
-    ensures fit { NotesFit result rows c }
+fn notes_at(plane: Plane, spot: Option<Place>, c: usize) -> Result<Notes, Refusal>
+    requires { SpotInColumn spot plane.rows c × (c ≤ plane_cells) }
+    ensures notes { result ≡ notes_at (plane_of plane.entry) spot }
+    ensures fit { NotesFit result plane.entry.rows c }
 {
     match spot {
-        Some(p) => notes_behind(plane, rows, p.row, p.col),
+        Some(p) => notes_behind(plane, p.row, p.col),
         None => Ok(Notes {
             count: 0,
             col: 0,
-            row: rows,
+            row: plane.rows,
         }),
     }
 }
 
 // Where everything stands on an upright sheet of h = height clause rows.
+// `allowed` is a fact of the sheet: no value hangs on it.
 #[derive(Clone, Copy)]
 pub struct Shape {
     pub inputs: usize,
@@ -115,36 +116,36 @@ pub struct Shape {
     pub notes: Notes,
 }
 
+// `values` is a fact of the sheet.
 // The cells of n inputs under h clause rows, with allowed values or without.
-fn pass_inputs(plane: &[u32], rows: usize, n: usize, h: usize, values: bool) -> Result<(), Refusal>
-    requires { PlaneFits plane.now rows × (n ≤ plane_cells) × (1 ≤ h) × (h < rows) }
-    ensures { result ≡ inputs_fine (plane_in plane.now rows) n h values }
+fn pass_inputs(plane: Plane, n: usize, h: usize, values: bool) -> Result<(), Refusal>
+    requires { (n ≤ plane_cells) × (1 ≤ h) × (h < plane.rows) }
+    ensures { result ≡ inputs_fine (plane_of plane.entry) n h values }
 {
-    passes::pass_row(plane, rows, 0, 0, n)?;
+    passes::pass_row(plane, 0, 0, n)?;
     if values {
-        passes::pass_row(plane, rows, h - 1, 0, n)?;
+        passes::pass_row(plane, h - 1, 0, n)?;
     }
-    passes::pass_rows(plane, rows, h + 1, 0, n)
+    passes::pass_rows(plane, h + 1, 0, n)
 }
 
 // The shape of n inputs and m outputs under h clause rows.
 fn clauses_at(
-    plane: &[u32],
-    rows: usize,
+    plane: Plane,
     n: usize,
     m: usize,
     h: usize,
     notes: Option<Place>,
 ) -> Result<Shape, Refusal>
-    requires { PlaneFits plane.now rows × (n + 1 + m ≤ plane_cells) × (h < rows) × SpotInColumn notes rows (n + 1 + m) }
-    ensures shape { result ≡ clauses_at (plane_in plane.now rows) n m h notes }
-    ensures fits { ShapedFits result rows 0 }
+    requires { (n + 1 + m ≤ plane_cells) × (h < plane.rows) × SpotInColumn notes plane.rows (n + 1 + m) }
+    ensures shape { result ≡ clauses_at (plane_of plane.entry) n m h notes }
+    ensures fits { ShapedFits result plane.entry.rows 0 }
 {
-    let values = allowed::allowed(plane, rows, n, m, h)?;
-    pass_inputs(plane, rows, n, h, values)?;
-    let layout = layouts::lay_out(plane, rows, n + 1, m, h, values)?;
-    passes::pass_rows(plane, rows, h + 1, n + 1, m)?;
-    let a = notes_at(plane, rows, notes, n + 1 + m)?;
+    let values = allowed::allowed(plane, n, m, h)?;
+    pass_inputs(plane, n, h, values)?;
+    let layout = layouts::lay_out(plane, n + 1, m, h, values)?;
+    passes::pass_rows(plane, h + 1, n + 1, m)?;
+    let a = notes_at(plane, notes, n + 1 + m)?;
     Ok(Shape {
         inputs: n,
         outputs: m,
@@ -156,34 +157,29 @@ fn clauses_at(
 }
 
 // Where the outputs end.
-fn outputs_end(plane: &[u32], rows: usize, notes: Option<Place>) -> usize
-    requires { PlaneFits plane.now rows × SpotWithin notes rows }
-    ensures end { result ≡ outputs_end (plane_in plane.now rows) notes }
-    ensures within { (result ≤ plane_cells) × SpotInColumn notes rows result }
+fn outputs_end(plane: Plane, notes: Option<Place>) -> usize
+    requires { SpotWithin notes plane.rows }
+    ensures end { result ≡ outputs_end (plane_of plane.entry) notes }
+    ensures within { (result ≤ plane_cells) × SpotInColumn notes plane.entry.rows result }
 {
     match notes {
         Some(p) => p.col,
-        None => width(plane, rows),
+        None => width(plane),
     }
 }
 
 // The shape between the main crossing and the annotations.
-fn shape_of(
-    plane: &[u32],
-    rows: usize,
-    main: Option<Place>,
-    notes: Option<Place>,
-) -> Result<Shape, Refusal>
-    requires { PlaneFits plane.now rows × SpotWithin main rows × SpotWithin notes rows }
-    ensures shape { result ≡ shape_of (plane_in plane.now rows) main notes }
-    ensures fits { ShapedFits result rows 0 }
+fn shape_of(plane: Plane, main: Option<Place>, notes: Option<Place>) -> Result<Shape, Refusal>
+    requires { SpotWithin main plane.rows × SpotWithin notes plane.rows }
+    ensures shape { result ≡ shape_of (plane_of plane.entry) main notes }
+    ensures fits { ShapedFits result plane.entry.rows 0 }
 {
     let p = main.ok_or(Refusal::NoMainCrossing)?;
-    let e = outputs_end(plane, rows, notes);
+    let e = outputs_end(plane, notes);
     if e <= p.col {
         return Err(Refusal::PlaneMalformed);
     }
-    clauses_at(plane, rows, p.col, e - (p.col + 1), p.row, notes)
+    clauses_at(plane, p.col, e - (p.col + 1), p.row, notes)
 }
 
 // Whether a sheet of so many rows has an entry for each rule number.
@@ -203,14 +199,13 @@ fn pass_sizes(rows: usize, s: Shape, rules: u64) -> Result<(), Refusal>
 }
 
 // The shape of an upright sheet that has so many rule numbers, or why it is refused.
-pub fn checked_shape(plane: &[u32], rows: usize, rules: u64) -> Result<Shape, Refusal>
-    requires { PlaneFits plane.now rows }
-    ensures shape { result ≡ checked_shape (plane_in plane.now rows) rules }
-    ensures fits { ShapedFits result rows rules }
+pub fn checked_shape(plane: Plane, rules: u64) -> Result<Shape, Refusal>
+    ensures shape { result ≡ checked_shape (plane_of plane.entry) rules }
+    ensures fits { ShapedFits result plane.entry.rows rules }
 {
-    let main = spot_of(plane, rows, Cell::MainDoubleCrossing);
-    let notes = spot_of(plane, rows, Cell::HorizontalDoubleCrossing);
-    let s = shape_of(plane, rows, main, notes)?;
-    pass_sizes(rows, s, rules)?;
+    let main = spot_of(plane, Cell::MainDoubleCrossing);
+    let notes = spot_of(plane, Cell::HorizontalDoubleCrossing);
+    let s = shape_of(plane, main, notes)?;
+    pass_sizes(plane.rows, s, rules)?;
     Ok(s)
 }

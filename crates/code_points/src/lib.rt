@@ -1,4 +1,5 @@
 // Code points of a text in UTF-8: checked, and known to stand at a place.
+// Places are indices into the whole text, as in `utf8`.
 #![tactic(auto)]
 
 ghost use Rattle.std.specs.Prelude.{◌≡◌, drop};
@@ -12,10 +13,9 @@ pub fn validate_from(s: &[u8], from: usize) -> Result<(), usize>
     let mut at = from;
     // No `for`: each turn goes on by the bytes of a code point.
     while at < s.len() {
-        let n = utf8::passed(s, at);
-        if n == 0 {
+        let Some(n) = utf8::passed(s, at) else {
             return Err(at);
-        }
+        };
         at += n;
     }
     Ok(())

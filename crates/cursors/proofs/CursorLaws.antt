@@ -15,19 +15,19 @@ use Rattle.along.specs.Characters.{along_of}
 use Rattle.along.specs.declared.Lines.{Lines}
 
 -- a walk keeps to the picture
-pub kept : (lines : Lines) (d : Direction) (p : Picture) (w h len : ℕ) (at : Point) → Place w h at.x at.y len → (m : Reading ℕ) → along_of lines d p w h at.x at.y ≡ m → Place w h (place_after d at m).x (place_after d at m).y len
-kept lines Right p w h len at i (Ok k) e = record { column = omega (arith, found_bound _ _ _ _ _ e, i.column); row = i.row; size = i.size }
-kept lines Down p w h len at i (Ok k) e = record { column = i.column; row = omega (arith, found_bound _ _ _ _ _ e, i.row); size = i.size }
-kept lines Left p w h len at i (Ok k) e = record { column = omega (arith, i.column); row = i.row; size = i.size }
-kept lines Up p w h len at i (Ok k) e = record { column = i.column; row = omega (arith, i.row); size = i.size }
-kept lines d p w h len at i (Err r) e = i
+pub kept : (lines : Lines) (d : Direction) (p : Picture) (w h : ℕ) (at : Point) → Place w h at.x at.y → (m : Reading ℕ) → along_of lines d p w h at.x at.y ≡ m → Place w h (place_after d at m).x (place_after d at m).y
+kept lines Right p w h at i (Ok k) e = record { column = omega (arith, found_bound _ _ _ _ _ e, i.column); row = i.row }
+kept lines Down p w h at i (Ok k) e = record { column = i.column; row = omega (arith, found_bound _ _ _ _ _ e, i.row) }
+kept lines Left p w h at i (Ok k) e = record { column = omega (arith, i.column); row = i.row }
+kept lines Up p w h at i (Ok k) e = record { column = i.column; row = omega (arith, i.row) }
+kept lines d p w h at i (Err r) e = i
 
 -- the place that it comes to is of numbers of 64 bits
-pub fits : (lines : Lines) (d : Direction) (p : Picture) (w h len x y : ℕ) → Place w h x y len → w < 2 ^ 64 → h < 2 ^ 64 → (k : ℕ) → Ok k ≡ along_of lines d p w h x y → Onward d x y k
-fits lines Right p w h len x y i a b k e = omega (arith, found_bound _ _ _ _ _ (sym e), i.column)
-fits lines Down p w h len x y i a b k e = omega (arith, found_bound _ _ _ _ _ (sym e), i.row)
-fits lines Left p w h len x y i a b k e = (found_bound _ _ _ _ _ (sym e)).1
-fits lines Up p w h len x y i a b k e = (found_bound _ _ _ _ _ (sym e)).1
+pub fits : (lines : Lines) (d : Direction) (p : Picture) (w h x y : ℕ) → Place w h x y → w < 2 ^ 64 → h < 2 ^ 64 → (k : ℕ) → Ok k ≡ along_of lines d p w h x y → Onward d x y k
+fits lines Right p w h x y i a b k e = omega (arith, found_bound _ _ _ _ _ (sym e), i.column)
+fits lines Down p w h x y i a b k e = omega (arith, found_bound _ _ _ _ _ (sym e), i.row)
+fits lines Left p w h x y i a b k e = (found_bound _ _ _ _ _ (sym e)).1
+fits lines Up p w h x y i a b k e = (found_bound _ _ _ _ _ (sym e)).1
 
 -- the walks of one cursor over a picture
 module _ (lines : Lines) (p : Picture) (w h : ℕ) where
@@ -41,5 +41,5 @@ module _ (lines : Lines) (p : Picture) (w h : ℕ) where
   pub came : (d : Direction) (at b : Point) (n : Reading ℕ) → Moves d at b n → b ≡ place_after d at n
   came d at b n m = m.0 ∙ ap (place_after d at) (sym m.1)
 
-  pub stays : (d : Direction) (at b : Point) (n : Reading ℕ) (len : ℕ) → Moves d at b n → Place w h at.x at.y len → Place w h b.x b.y len
-  stays d at b n len m i = subst (λ (z : Point). Place w h z.x z.y len) (sym m.0) (kept lines d p w h len at i (go d at) refl)
+  pub stays : (d : Direction) (at b : Point) (n : Reading ℕ) → Moves d at b n → Place w h at.x at.y → Place w h b.x b.y
+  stays d at b n m i = subst (λ (z : Point). Place w h z.x z.y) (sym m.0) (kept lines d p w h at i (go d at) refl)

@@ -3,16 +3,17 @@ use Rattle.std.specs.Prelude.{Ok, Err, Result, ℕ}
 use mathlib.Core.Path.{◌≡◌, refl, sym, ap, subst, ◌∙◌}
 use mathlib.Core.Bool.{true}
 use mathlib.Core.List.{List, ◌++◌}
-use Prim.Native.Nat.{ℕ, ◌+◌, ◌*◌, ◌≤◌}
+use Prim.Native.Nat.{ℕ, ◌*◌, ◌≤◌}
 use native.Mathlib.Nat.{mul-le-mul}
 use native.Mathlib.Omega.{arith}
 use lib.ListN.{length}
-use Rattle.lists.specs.Picture.{canvas}
+use Rattle.lists.specs.Picture.{Picture, canvas}
 use Rattle.lists.proofs.AnswerLaws.{refused-ok}
 use Rattle.lists.proofs.Tests.{by_flag}
-use Rattle.model.specs.Limits.{canvas_size, region_count, text_bytes}
+use Rattle.model.specs.Limits.{canvas_columns, canvas_rows, canvas_size, region_count, text_bytes}
 use Rattle.model.specs.Refusals.{Reading, numbers}
 use Rattle.model.specs.declared.Refusal.{Refusal}
+use Rattle.model.specs.declared.layer.Layer.{Layer}
 use Rattle.outline.specs.declared.Outline.{Outline}
 use Rattle.sheet_rows.specs.Rows.{rows_at}
 use Rattle.scan.specs.Canvas.{fits, size_of}
@@ -23,14 +24,16 @@ use Rattle.canvas.specs.Drawn.{outline_in, LayersIn, Shown}
 use Rattle.text_planes.specs.RegionTexts.{Regions as Shape, region_texts_of, regions_in, UsedIn}
 use Rattle.canvas.specs.declared.Drawing.{Drawing}
 use Rattle.text_planes.specs.declared.RegionsRead.{RegionsRead}
-use Rattle.cells.specs.Plane.{Plane, plane_in, PlaneFits}
+use Rattle.cells.specs.Plane.{Plane, plane_in}
 use Rattle.cells.specs.Spans.{texts_in}
 use Rattle.rects.specs.Rects.{rects_of}
-use Rattle.step.specs.Made.{plane_made, MadeFits, StepRoom}
+use Rattle.texts.specs.RegionText.{packed}
+use Rattle.step.specs.Made.{plane_made}
 use Rattle.step.specs.PlaneStep.{plane_of}
 use Rattle.print.specs.Lines.{refused_line}
 use Rattle.plane_lines.specs.Planes.{plane_lines}
-use Rattle.sketch.specs.Drawings.{layers_lines, counted_lines, name_line, Layer, Texts, Regions}
+use Rattle.sketch.specs.Drawings.{layers_lines, counted_lines, name_line}
+use Rattle.sketch.specs.Printable.{OnCanvas}
 use Rattle.drawings.specs.DrawingLines.{plane_printed, regions_lines, drawing_lines}
 
 drawn-fits : (rs : List (List ℕ)) (o : Outline) → drawing_of rs ≡ Ok o → fits rs ≡ true
@@ -54,11 +57,10 @@ module _ (s : List ℕ) (a : Reading Drawing) (e : outline_in a ≡ sheet_of s) 
     shown : Shown (rows_at s 0) d.rows d.columns d.outline.body t m b g
     shown = subst (λ (a : Reading Drawing). LayersIn a (rows_at s 0) t m b g) k l
 
-    pub drawn-layer : (x : List ℕ) → canvas_size ≤ length x → Layer d.columns d.rows x
-    drawn-layer x q =
+    pub drawn-size : (d.columns ≤ canvas_columns) × (d.rows ≤ canvas_rows) × (d.rows * d.columns ≤ canvas_size)
+    drawn-size =
         let f = fits-size (rows_at s 0) (sheet-fits s d.outline outlined) in
-        let z : d.rows * d.columns ≤ canvas_size = rw (shown.rows, shown.columns) f.2 in
-        record { columns = rw shown.columns f.0; rows = rw shown.rows f.1; size = omega arith }
+        (rw shown.columns f.0, rw shown.rows f.1, rw (shown.rows, shown.columns) f.2)
 
     pub drawn-lines : layers_lines (canvas d.columns d.rows t) (canvas d.columns d.rows m) (canvas d.columns d.rows b) (canvas d.columns d.rows g) d.columns d.rows
         ++ regions_lines d.outline (canvas d.columns d.rows g) d.columns d.rows (region_texts_of (canvas d.columns d.rows t) (canvas d.columns d.rows m) d.columns d.rows) ≡ drawing_lines s
@@ -70,24 +72,21 @@ module _ (s : List ℕ) (a : Reading Drawing) (e : outline_in a ≡ sheet_of s) 
   not_drawn {r} k = let q : sheet_of s ≡ Err r = sym e ∙ ap outline_in k in rw q
 
 -- regions that are read
-module _ (o : Outline) (text thin grid : List ℕ) (w h : ℕ) (r : Reading RegionsRead) (rects bytes spans : List ℕ)
-    (e : regions_in r rects bytes spans ≡ region_texts_of (canvas w h text) (canvas w h thin) w h) where
-  lines : (q : Reading Shape) → regions_in r rects bytes spans ≡ q → regions_lines o (canvas w h grid) w h q ≡ regions_lines o (canvas w h grid) w h (region_texts_of (canvas w h text) (canvas w h thin) w h)
-  lines q k = ap (regions_lines o (canvas w h grid) w h) (sym k ∙ e)
+module _ (o : Outline) (grid : Picture) (w h : ℕ) (x : Reading Shape) (r : Reading RegionsRead) (rects bytes spans : List ℕ) (e : regions_in r rects bytes spans ≡ x) where
+  lines : (q : Reading Shape) → regions_in r rects bytes spans ≡ q → regions_lines o grid w h q ≡ regions_lines o grid w h x
+  lines q k = ap (regions_lines o grid w h) (sym k ∙ e)
 
   pub read-lines : {g : RegionsRead} → r ≡ Ok g
-      → counted_lines (rects_of rects g.count) (texts_in bytes spans g.count) ++ (name_line o.named (texts_in bytes spans g.count) ++ plane_printed (plane_of o (rects_of rects g.count) (canvas w h grid) w h))
-      ≡ regions_lines o (canvas w h grid) w h (region_texts_of (canvas w h text) (canvas w h thin) w h)
+      → counted_lines (rects_of rects g.count) (texts_in bytes spans g.count) ++ (name_line o.named (texts_in bytes spans g.count) ++ plane_printed (plane_of o (rects_of rects g.count) grid w h))
+      ≡ regions_lines o grid w h x
   read-lines k = lines _ (ap (λ (r : Reading RegionsRead). regions_in r rects bytes spans) k)
 
-  pub not_read : {q : Refusal} → r ≡ Err q → refused_line (numbers q) ≡ regions_lines o (canvas w h grid) w h (region_texts_of (canvas w h text) (canvas w h thin) w h)
+  pub not_read : {q : Refusal} → r ≡ Err q → refused_line (numbers q) ≡ regions_lines o grid w h x
   not_read k = lines _ (ap (λ (r : Reading RegionsRead). regions_in r rects bytes spans) k)
 
--- the plane step's slices
-pub step_room : {w h n : ℕ} {grid rects found : List ℕ} → Layer w h grid → n ≤ region_count → n * 4 ≤ length rects → canvas_size ≤ length found → StepRoom w h n grid rects found
-step_room {w} {h} l k r f =
-    let s : h * w ≤ canvas_size = mul-le-mul l.rows l.columns in
-    record { layer = record { columns = omega (arith, l.columns); rows = omega (arith, l.rows); size = l.size }; size = omega arith; few = k; rects = r }
+-- a layer's characters are at most those of the largest canvas
+pub canvas_most : {l : Layer} → OnCanvas l → l.height * l.width ≤ canvas_size
+canvas_most c = mul-le-mul c.rows c.columns
 
 -- what is printed of a plane that is made, or not
 module _ (m : Reading ℕ) (d : List ℕ) (x : Reading Plane) (e : plane_made m d ≡ x) where
@@ -97,20 +96,12 @@ module _ (m : Reading ℕ) (d : List ℕ) (x : Reading Plane) (e : plane_made m 
   pub not_made : {r : Refusal} → m ≡ Err r → refused_line (numbers r) ≡ plane_printed x
   not_made k = ap plane_printed (sym (ap (λ (m : Reading ℕ). plane_made m d) k) ∙ e)
 
-pub made_fits : (m : Reading ℕ) (d : List ℕ) {n : ℕ} → MadeFits m d → m ≡ Ok n → PlaneFits d n
-made_fits m d f k = subst (λ (m : Reading ℕ). MadeFits m d) k f
-
 module _ (r : Reading RegionsRead) (bytes spans : List ℕ) {g : RegionsRead} (u : UsedIn r bytes spans) (k : r ≡ Ok g) where
   used_in : UsedIn (Ok g) bytes spans
   used_in = subst (λ (r : Reading RegionsRead). UsedIn r bytes spans) k u
 
-  pub read-texts : text_bytes + 4 ≤ length bytes → region_count * 2 ≤ length spans → Texts bytes spans g.count
-  read-texts b c =
-      let v = used_in in
-      record { two_each = omega (arith, v.0); inside = λ j i. omega (arith, v.1.1.1 j i, v.1.1.0); total = omega (arith, v.1.0, v.1.1.0) }
+  pub read-total : length (packed (texts_in bytes spans g.count)) ≤ text_bytes
+  read-total = let v = used_in in omega (arith, v.1.0, v.1.1.0)
 
   pub read-few : g.count ≤ region_count
   read-few = used_in.0
-
-  pub read-regions : (rects : List ℕ) → region_count * 4 ≤ length rects → text_bytes + 4 ≤ length bytes → region_count * 2 ≤ length spans → Regions rects bytes spans g.count
-  read-regions rects a b c = record { count = read-few; four_each = omega (arith, read-few); texts = read-texts b c }

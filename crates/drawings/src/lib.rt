@@ -2,74 +2,81 @@
 #![tactic(auto)]
 
 ghost use Rattle.std.specs.Prelude.{◌+◌, ◌*◌, ◌≤◌, length};
-ghost use Rattle.lists.specs.Picture.{canvas};
+ghost use Rattle.arrayvec.specs.ArrayVec.{array_vec_len};
+ghost use Rattle.model.specs.Layers.{picture_of};
 ghost use Rattle.model.specs.Limits.{region_count};
 ghost use Rattle.rects.specs.Rects.{rects_of};
 ghost use Rattle.step.specs.PlaneStep.{plane_of};
 ghost use Rattle.text_planes.specs.RegionTexts.{region_texts_of};
 ghost use Rattle.print.specs.Decimal.{Written};
-ghost use Rattle.sketch.specs.Drawings.{Layer};
+ghost use Rattle.sketch.specs.Printable.{OnCanvas, SameSize};
 ghost use Rattle.plane_lines.specs.Planes.{plane_bytes};
 ghost use Rattle.lines.specs.Room.{line_bytes};
 ghost use Rattle.drawings.specs.DrawingLines.{plane_printed, regions_lines, regions_bytes, drawing_lines};
 
+use arrayvec::ArrayVec;
+use cells::plane::Plane;
+use cells::texts::Texts;
+use model::layer::Layer;
 use model::limits::CANVAS_SIZE;
 use outline::Outline;
 
 // The plane of GRID, whose regions are known; or why there is none.
-fn put_step(
-    out: &mut [u8],
-    at: usize,
+fn put_step<const N: usize>(
+    out: &mut ArrayVec<u8, N>,
     o: Outline,
-    grid: &[u32],
-    w: usize,
-    h: usize,
+    grid: Layer,
     rects: &[u32],
     count: usize,
-) -> usize
-    requires { (at + plane_bytes ≤ length out.old) × Layer w h grid.now × (count ≤ region_count) × (count * 4 ≤ length rects.now) }
-    ensures { Written out.old out.new at (plane_printed (plane_of o (rects_of rects.now count) (canvas w h grid.now) w h)) plane_bytes result }
+)
+    requires { (array_vec_len out.old + plane_bytes ≤ N) × OnCanvas grid × (count ≤ region_count) × (count * 4 ≤ length rects.now) }
+    ensures { Written out.old.items out.new.items (plane_printed (plane_of o (rects_of rects.now count) (picture_of grid.entry) grid.entry.width grid.entry.height)) plane_bytes }
 {
+    // Work slices, as a caller in C lends them: nothing is allocated.
     let mut found = [0u32; CANVAS_SIZE];
     let mut plane = [0u32; 4160];
-    match step::make_plane(o, grid, w, h, rects, count, &mut found, &mut plane) {
-        Ok(n) => plane_lines::put_plane(out, at, &plane, n),
-        Err(r) => print::put_refusal(out, at, r),
+    match step::make_plane(o, grid, rects, count, &mut found, &mut plane) {
+        Ok(rows) => {
+            let cells = &plane;
+            plane_lines::put_plane(out, Plane { cells, rows })
+        }
+        Err(r) => print::put_refusal(out, r),
     }
 }
 
 // The regions of THIN with their texts on TEXT, the name, and the plane.
-fn put_regions(
-    out: &mut [u8],
-    at: usize,
+fn put_regions<const N: usize>(
+    out: &mut ArrayVec<u8, N>,
     o: Outline,
-    text: &[u32],
-    thins: &[u32],
-    grid: &[u32],
-    w: usize,
-    h: usize,
-) -> usize
-    requires { (at + regions_bytes ≤ length out.old) × Layer w h text.now × Layer w h thins.now × Layer w h grid.now }
-    ensures { Written out.old out.new at (regions_lines o (canvas w h grid.now) w h (region_texts_of (canvas w h text.now) (canvas w h thins.now) w h)) regions_bytes result }
+    text: Layer,
+    thins: Layer,
+    grid: Layer,
+)
+    requires { (array_vec_len out.old + regions_bytes ≤ N) × OnCanvas text × SameSize text thins × SameSize text grid }
+    ensures { Written out.old.items out.new.items (regions_lines o (picture_of grid.entry) grid.entry.width grid.entry.height (region_texts_of (picture_of text.entry) (picture_of thins.entry) thins.entry.width thins.entry.height)) regions_bytes }
 {
     let mut rects = [0u32; 4096];
     let mut bytes = [0u8; 61444];
     let mut spans = [0u32; 2048];
-    match text_planes::read_regions(text, thins, w, h, &mut rects, &mut bytes, &mut spans) {
+    match text_planes::read_regions(text, thins, &mut rects, &mut bytes, &mut spans) {
         Ok(g) => {
-            let n = g.count;
-            let a = sketch::put_regions(out, at, &rects, &bytes, &spans, n);
-            let b = sketch::put_name(out, a, &bytes, &spans, n, o.named);
-            put_step(out, b, o, grid, w, h, &rects, n)
+            let texts = Texts {
+                bytes: &bytes,
+                spans: &spans,
+                count: g.count,
+            };
+            sketch::put_regions(out, &rects, texts);
+            sketch::put_name(out, texts, o.named);
+            put_step(out, o, grid, &rects, g.count)
         }
-        Err(r) => print::put_refusal(out, at, r),
+        Err(r) => print::put_refusal(out, r),
     }
 }
 
 // The layers, the regions and the plane of a sheet.
-pub fn put_drawing(out: &mut [u8], at: usize, s: &[u8]) -> usize
-    requires { at + line_bytes ≤ length out.old }
-    ensures { Written out.old out.new at (drawing_lines s.now) line_bytes result }
+pub fn put_drawing<const N: usize>(out: &mut ArrayVec<u8, N>, s: &[u8])
+    requires { array_vec_len out.old + line_bytes ≤ N }
+    ensures { Written out.old.items out.new.items (drawing_lines s.now) line_bytes }
 {
     let mut text = [0u32; CANVAS_SIZE];
     let mut thins = [0u32; CANVAS_SIZE];
@@ -77,11 +84,31 @@ pub fn put_drawing(out: &mut [u8], at: usize, s: &[u8]) -> usize
     let mut grid = [0u32; CANVAS_SIZE];
     match canvas::draw_sheet(s, &mut text, &mut thins, &mut bodies, &mut grid) {
         Ok(d) => {
-            let h = d.rows;
-            let w = d.columns;
-            let a = sketch::put_layers(out, at, &text, &thins, &bodies, &grid, w, h);
-            put_regions(out, a, d.outline, &text, &thins, &grid, w, h)
+            let width = d.columns;
+            let height = d.rows;
+            let text = Layer {
+                codes: &text,
+                width,
+                height,
+            };
+            let thins = Layer {
+                codes: &thins,
+                width,
+                height,
+            };
+            let bodies = Layer {
+                codes: &bodies,
+                width,
+                height,
+            };
+            let grid = Layer {
+                codes: &grid,
+                width,
+                height,
+            };
+            sketch::put_layers(out, text, thins, bodies, grid);
+            put_regions(out, d.outline, text, thins, grid)
         }
-        Err(r) => print::put_refusal(out, at, r),
+        Err(r) => print::put_refusal(out, r),
     }
 }

@@ -23,7 +23,6 @@ use Rattle.cells.specs.Spans.{offset_at, length_at, text_at, texts_in}
 use Rattle.frames.specs.Body.{body_of}
 use Rattle.outline.specs.Outline.{search_of, named_by, named_of, table_of, outline_by, outline_of}
 use Rattle.outline.specs.declared.Outline.{Outline}
-use Rattle.regions.specs.Slices.{Layer}
 use Rattle.sheet_rows.specs.Rows.{rows_at, widest}
 use Rattle.scan.proofs.Answers.{fits-size}
 use Rattle.texts.specs.RegionText.{text_of}
@@ -120,17 +119,19 @@ module _ (s : List ℕ) (o : Outline) (e : Ok o ≡ sheet_of s) {h w : ℕ} {t m
       let f = fits-size (rows_at s 0) (drawn-fits frame_of (rows_at s 0) o (sheet-drawn frame_of s o (sym e))) in
       (rw l.columns f.0, rw l.rows f.1, rw (l.rows, l.columns) f.2)
 
-  layer_in : (x : List ℕ) → canvas_size ≤ length x → Layer w h (length x)
-  layer_in x q =
-      let f = size_in in
-      record { columns = omega arith; rows = omega arith; size = omega arith }
+  pub grid_in : {n : ℕ} → canvas_size ≤ n → h * w ≤ n
+  grid_in q = omega (arith, size_in)
 
-  pub plane-room : {bytes spans : List ℕ} → Room t m b g → text_bytes + 4 ≤ length bytes → region_count * 2 ≤ length spans → PlaneRoom w h t m g b bytes spans
+  pub plane-room : {bytes spans : List ℕ} → Room t m b g → text_bytes + 4 ≤ length bytes → region_count * 2 ≤ length spans → PlaneRoom w h t m b bytes spans
   plane-room a x y =
       let q = size_in in
       record {
-        regions = record { layer = layer_in m a.thin; size = omega (arith, a.text); four_each = omega (arith, a.body); all_texts = x; two_each = y };
-        grid = layer_in g a.grid;
+        small = record { columns = omega arith; rows = omega arith };
+        text = omega (arith, a.text);
+        thin = omega (arith, a.thin);
+        four_each = omega (arith, a.body);
+        all_texts = x;
+        two_each = y;
         plane = omega (arith, a.text);
       }
 
@@ -148,16 +149,10 @@ module _ (s : List ℕ) (o : Outline) (e : Ok o ≡ sheet_of s) {h w : ℕ} {t m
     unfolding named_plane
     with_plane = rw (front_texts bytes ss count k, ← e, ← as_drawn, ← q)
 
-    pub name_in : NameIn o.named (take text_bytes bytes) ss count
-    name_in =
-        record {
-          first = λ c.
-              let x = some-text (rows_at s 0) o (record { plane = plane_in d n; texts = texts_in bytes ss count }) (sheet-drawn frame_of s o (sym e)) c (sym (q ∙ as_drawn)) in
-              omega (arith, length_run (text_at bytes ss) 0 count);
-          few = omega (arith, length-take text_bytes bytes);
-          two_each = k.two_each;
-          inside = k.inside;
-        }
+    pub name_in : NameIn o.named count
+    name_in c =
+        let x = some-text (rows_at s 0) o (record { plane = plane_in d n; texts = texts_in bytes ss count }) (sheet-drawn frame_of s o (sym e)) c (sym (q ∙ as_drawn)) in
+        omega (arith, length_run (text_at bytes ss) 0 count)
 
 pub not_drawn : (s : List ℕ) (r : Refusal) → Err r ≡ sheet_of s → Err r ≡ named_plane s
 unfolding named_plane

@@ -42,7 +42,7 @@ drawn_in (Err r) plane bytes spans = Err r
 
 -- its texts lie in the first 61,440 bytes, the name's among them
 abbrev pub DrawnHeld : Reading DrawnRows → List ℕ → List ℕ → List ℕ → Type 0
-DrawnHeld (Ok d) plane bytes spans = Held plane d.rows (take text_bytes bytes) spans d.count × NameIn d.named (take text_bytes bytes) spans d.count
+DrawnHeld (Ok d) plane bytes spans = Held plane d.rows (take text_bytes bytes) spans d.count × NameIn d.named d.count
 DrawnHeld (Err r) plane bytes spans = Unit {0}
 
 -- the work slices: four layers, and the texts of the regions

@@ -5,8 +5,10 @@ ghost use Rattle.std.specs.Prelude.{◌≡◌};
 ghost use Rattle.drawn_planes.specs.DrawnTable.{named_plane, drawn_in, DrawnHeld, DrawnRoom};
 
 use model::Refusal;
+use model::layer::Layer;
 
 // So many rows of a plane, with so many regions, and whether the first of these is the name's.
+// That is a fact of the drawing: no value hangs on it.
 #[derive(Clone, Copy)]
 pub struct DrawnRows {
     pub rows: usize,
@@ -30,9 +32,12 @@ pub fn drawn_plane(
 {
     let d = canvas::draw_sheet(s, text, thins, bodies, grid)?;
     let o = d.outline;
-    let p = text_planes::read_plane(
-        o, text, thins, grid, bodies, d.columns, d.rows, bytes, spans,
-    )?;
+    let layer = Layer {
+        codes: grid,
+        width: d.columns,
+        height: d.rows,
+    };
+    let p = text_planes::read_plane(o, text, thins, layer, bodies, bytes, spans)?;
     Ok(DrawnRows {
         rows: p.rows,
         count: p.count,

@@ -10,6 +10,9 @@ ghost use Rattle.policies.specs.DrawnPolicy.{walked_policy};
 ghost use Rattle.records.specs.Outcomes.{outcome_of, record_of};
 ghost use Rattle.drawn_planes.specs.DrawnTable.{named_policy, drawn_in, DrawnHeld, DrawnRoom};
 
+use cells::plane::Plane;
+use cells::text_plane::TextPlane;
+use cells::texts::Texts;
 use drawn_planes::DrawnRows;
 use model::Refusal;
 use model::limits::TEXT_BYTES;
@@ -37,16 +40,18 @@ fn table_of(
     ensures held { AnswerHeld result (take text_bytes bytes.now) slots.new }
 {
     let d = d?;
-    tables::plane_table(
-        plane,
-        d.rows,
-        texts_in(bytes),
-        spans,
-        d.count,
-        d.named,
-        upright,
-        slots,
-    )
+    let sheet = TextPlane {
+        plane: Plane {
+            cells: plane,
+            rows: d.rows,
+        },
+        texts: Texts {
+            bytes: texts_in(bytes),
+            spans,
+            count: d.count,
+        },
+    };
+    tables::plane_table(sheet, d.named, upright, slots)
 }
 
 // The record of a table whose texts lie in the first 61,440 bytes, or its refusal.

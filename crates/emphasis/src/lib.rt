@@ -1,4 +1,5 @@
 // The parts of a list between commas, and the first that stands in emphasis: its marked default.
+// Places are indices into the whole text, as in `utf8`.
 #![tactic(auto)]
 
 ghost use Rattle.std.specs.Prelude.{◌&&◌, ◌≡◌, ◌-◌, ◌≤◌, ◌<◌, length, take, drop};

@@ -1,4 +1,5 @@
 // Code points written as UTF-8.
+// A slice with a place or a count: it is lent by the caller, in C too, as `record` says.
 #![tactic(auto)]
 
 ghost use Rattle.std.specs.Prelude.{◌≡◌, ◌+◌, ◌<◌, ◌≤◌, length, set};

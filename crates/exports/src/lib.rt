@@ -26,7 +26,7 @@ pub extern "C" fn fezandimo_read_sheet(
     ensures out { out.new ≡ (sheet_end s.now (text.old ∷ thins.old ∷ bodies.old ∷ grid.old ∷ spans.old ∷ bytes.old ∷ []) out.old).out }
 {
     let o = builder::read_sheet(s, text, thins, bodies, grid, spans, bytes, out);
-    numbers::outcome_answer(o)
+    Answer::from(o)
 }
 
 // The table from a lent plane.
@@ -57,7 +57,7 @@ pub extern "C" fn fezandimo_read_lent_plane(
         bytes,
     };
     let o = lent_builder::read_lent_plane(l, plane, spans, upright, slots, out);
-    numbers::outcome_answer(o)
+    Answer::from(o)
 }
 
 // The value split.
@@ -66,5 +66,5 @@ pub extern "C" fn fezandimo_split_values(text: &[u8], scratch: &mut [u8]) -> Spl
     ensures { SplitTold result text.now scratch.old scratch.new }
 {
     let s = utils::split_values(text, scratch);
-    numbers::split_numbers(s)
+    SplitAnswer::from(s)
 }

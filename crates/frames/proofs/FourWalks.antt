@@ -44,14 +44,14 @@ module _ (lines : Lines) (p : Picture) (w h x y : ℕ) where
       ∙ sym (walked (kind_of lines) p w h x y i j k l (sym m1.1) (sym m2'.1) (sym m3'.1) (sym m4'.1))
 
   -- each walk of them ends in the picture
-  pub in_right : (len : ℕ) (n1 : Reading ℕ) (a : Point) → Place w h x y len → Moves lines p w h Right (point x y) a n1 → Place w h a.x a.y len
-  in_right len n1 a i m1 = stays lines p w h Right (point x y) a n1 len m1 i
+  pub in_right : (n1 : Reading ℕ) (a : Point) → Place w h x y → Moves lines p w h Right (point x y) a n1 → Place w h a.x a.y
+  in_right n1 a i m1 = stays lines p w h Right (point x y) a n1 m1 i
 
-  pub in_down : (len : ℕ) (n1 n2 : Reading ℕ) (a b : Point) → Place w h x y len → Moves lines p w h Right (point x y) a n1 → Moves lines p w h Down a b n2 → Place w h b.x b.y len
-  in_down len n1 n2 a b i m1 m2 = stays lines p w h Down a b n2 len m2 (in_right len n1 a i m1)
+  pub in_down : (n1 n2 : Reading ℕ) (a b : Point) → Place w h x y → Moves lines p w h Right (point x y) a n1 → Moves lines p w h Down a b n2 → Place w h b.x b.y
+  in_down n1 n2 a b i m1 m2 = stays lines p w h Down a b n2 m2 (in_right n1 a i m1)
 
-  pub in_left : (len : ℕ) (n1 n2 n3 : Reading ℕ) (a b c : Point) → Place w h x y len → Moves lines p w h Right (point x y) a n1 → Moves lines p w h Down a b n2 → Moves lines p w h Left b c n3 → Place w h c.x c.y len
-  in_left len n1 n2 n3 a b c i m1 m2 m3 = stays lines p w h Left b c n3 len m3 (in_down len n1 n2 a b i m1 m2)
+  pub in_left : (n1 n2 n3 : Reading ℕ) (a b c : Point) → Place w h x y → Moves lines p w h Right (point x y) a n1 → Moves lines p w h Down a b n2 → Moves lines p w h Left b c n3 → Place w h c.x c.y
+  in_left n1 n2 n3 a b c i m1 m2 m3 = stays lines p w h Left b c n3 m3 (in_down n1 n2 a b i m1 m2)
 
 -- to the sides of the body, from one place
 module _ (lines : Lines) (p : Picture) (w h x y : ℕ) where

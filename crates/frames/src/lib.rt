@@ -1,8 +1,8 @@
 // The frames that the walks of a cursor find.
 #![tactic(auto)]
 
-ghost use Rattle.std.specs.Prelude.{◌≡◌, ◌+◌, ◌<◌, ◌^◌, length};
-ghost use Rattle.lists.specs.Picture.{canvas};
+ghost use Rattle.std.specs.Prelude.{◌≡◌, ◌+◌, ◌<◌, ◌^◌};
+ghost use Rattle.model.specs.Layers.{picture_of};
 ghost use Rattle.walks.specs.Frame.{Place, close_of, frame_of};
 ghost use Rattle.walks.specs.Kinds.{thin, grid, name};
 ghost use Rattle.walks.specs.declared.Direction.TheVariants.{Right, Down};
@@ -12,6 +12,7 @@ ghost use Rattle.frames.specs.Body.{body_of};
 ghost use Rattle.frames.specs.Answers.{all_of, closed_of};
 
 use along::Lines;
+use model::layer::Layer;
 use model::{Point, Rect, Refusal};
 use walks::Direction;
 
@@ -30,189 +31,136 @@ fn all(
     d
 }
 
-// The four walks of a frame ended in column cx of row cy; its bottom right corner is in column bx of row by.
-fn close(x: usize, y: usize, cx: usize, cy: usize, bx: usize, by: usize) -> Result<Rect, Refusal>
-    requires { (bx + 1 < 2 ^ 64) × (by + 1 < 2 ^ 64) }
-    ensures { result ≡ close_of x y cx cy bx by }
+// The four walks of a frame ended at a place; its bottom right corner is another.
+fn close(at: Point, corner: Point, end: Point) -> Result<Rect, Refusal>
+    requires { (corner.x + 1 < 2 ^ 64) × (corner.y + 1 < 2 ^ 64) }
+    ensures { result ≡ close_of at.x at.y end.x end.y corner.x corner.y }
 {
-    if cx == x {
-        if cy == y {
-            return Ok(Rect {
-                left: x,
-                top: y,
-                right: bx + 1,
-                bottom: by + 1,
-            });
-        }
+    if end == at {
+        return Ok(Rect {
+            left: at.x,
+            top: at.y,
+            right: corner.x + 1,
+            bottom: corner.y + 1,
+        });
     }
-    Err(Refusal::RectangleNotClosed(cx, cy))
+    Err(Refusal::RectangleNotClosed(end.x, end.y))
 }
 
-// What four walks found: the rect from column x of row y to column bx of row by, if they ended where it begins, in
-// column cx of row cy; or their first refusal.
+// What four walks found: the rect from one place to its bottom right corner, if they ended where it begins; or their
+// first refusal.
 fn closed(
-    x: usize,
-    y: usize,
-    bx: usize,
-    by: usize,
-    cx: usize,
-    cy: usize,
+    at: Point,
+    corner: Point,
+    end: Point,
     right: Result<usize, Refusal>,
     down: Result<usize, Refusal>,
     left: Result<usize, Refusal>,
     up: Result<usize, Refusal>,
 ) -> Result<Rect, Refusal>
-    requires { (bx + 1 < 2 ^ 64) × (by + 1 < 2 ^ 64) }
-    ensures { result ≡ closed_of x y bx by cx cy right down left up }
+    requires { (corner.x + 1 < 2 ^ 64) × (corner.y + 1 < 2 ^ 64) }
+    ensures { result ≡ closed_of at.x at.y corner.x corner.y end.x end.y right down left up }
 {
     all(right, down, left, up)?;
-    close(x, y, cx, cy, bx, by)
+    close(at, corner, end)
 }
 
-// The frame along lines that starts in column x of row y: one cursor goes around it. It is inlined into each caller, so
-// that its walks are compiled with its characters.
+// The frame along lines that starts at a place: one cursor goes around it. It is inlined into each caller, so that its
+// walks are compiled with its characters.
 #[inline(always)]
-fn frame(
-    layer: &[u32],
-    w: usize,
-    h: usize,
-    x: usize,
-    y: usize,
-    lines: Lines,
-) -> Result<Rect, Refusal>
-    requires { Place w h x y (length layer.now) }
-    ensures { result ≡ frame_of (kind_of lines) (canvas w h layer.now) w h x y }
+fn frame(layer: Layer, at: Point, lines: Lines) -> Result<Rect, Refusal>
+    requires { Place layer.width layer.height at.x at.y }
+    ensures { result ≡ frame_of (kind_of lines) (picture_of layer.entry) layer.entry.width layer.entry.height at.x at.y }
 {
-    let mut cursor = Point { x, y };
-    let right = cursors::search(Direction::Right, layer, w, h, &mut cursor, lines);
-    let down = cursors::search(Direction::Down, layer, w, h, &mut cursor, lines);
-    let bx = cursor.x;
-    let by = cursor.y;
-    let left = cursors::search(Direction::Left, layer, w, h, &mut cursor, lines);
-    let up = cursors::search(Direction::Up, layer, w, h, &mut cursor, lines);
-    closed(x, y, bx, by, cursor.x, cursor.y, right, down, left, up)
+    let mut cursor = at;
+    let right = cursors::search(Direction::Right, layer, &mut cursor, lines);
+    let down = cursors::search(Direction::Down, layer, &mut cursor, lines);
+    let corner = cursor;
+    let left = cursors::search(Direction::Left, layer, &mut cursor, lines);
+    let up = cursors::search(Direction::Up, layer, &mut cursor, lines);
+    closed(at, corner, cursor, right, down, left, up)
 }
 
-// The region that starts in column x of row y of THIN.
-pub fn recognize_region(
-    layer: &[u32],
-    w: usize,
-    h: usize,
-    x: usize,
-    y: usize,
-) -> Result<Rect, Refusal>
-    requires { Place w h x y (length layer.now) }
-    ensures { result ≡ frame_of thin (canvas w h layer.now) w h x y }
+// The region that starts at a place of THIN.
+pub fn recognize_region(layer: Layer, at: Point) -> Result<Rect, Refusal>
+    requires { Place layer.width layer.height at.x at.y }
+    ensures { result ≡ frame_of thin (picture_of layer.entry) layer.entry.width layer.entry.height at.x at.y }
 {
-    frame(layer, w, h, x, y, Lines::Region)
+    frame(layer, at, Lines::Region)
 }
 
-// The cell of the plane that starts in column x of row y of GRID.
-pub fn recognize_rectangle(
-    layer: &[u32],
-    w: usize,
-    h: usize,
-    x: usize,
-    y: usize,
-) -> Result<Rect, Refusal>
-    requires { Place w h x y (length layer.now) }
-    ensures { result ≡ frame_of grid (canvas w h layer.now) w h x y }
+// The cell of the plane that starts at a place of GRID.
+pub fn recognize_rectangle(layer: Layer, at: Point) -> Result<Rect, Refusal>
+    requires { Place layer.width layer.height at.x at.y }
+    ensures { result ≡ frame_of grid (picture_of layer.entry) layer.entry.width layer.entry.height at.x at.y }
 {
-    frame(layer, w, h, x, y, Lines::Rectangle)
+    frame(layer, at, Lines::Rectangle)
 }
 
 // The box of the name, which starts in the top left corner of TEXT.
-pub fn recognize_name(layer: &[u32], w: usize, h: usize) -> Result<Rect, Refusal>
-    requires { Place w h 0 0 (length layer.now) }
-    ensures { result ≡ frame_of name (canvas w h layer.now) w h 0 0 }
+pub fn recognize_name(layer: Layer) -> Result<Rect, Refusal>
+    requires { Place layer.width layer.height 0 0 }
+    ensures { result ≡ frame_of name (picture_of layer.entry) layer.entry.width layer.entry.height 0 0 }
 {
-    frame(layer, w, h, 0, 0, Lines::Name)
+    frame(layer, Point { x: 0, y: 0 }, Lines::Name)
 }
 
-// The rect whose sides four walks from column x of row y come to: the cursor is set back there after each.
-fn sides(
-    layer: &[u32],
-    w: usize,
-    h: usize,
-    x: usize,
-    y: usize,
-    lines: Lines,
-) -> Result<Rect, Refusal>
-    requires { Place w h x y (length layer.now) × (lines ≡ Body) }
-    ensures { result ≡ body_of (canvas w h layer.now) w h x y }
+// The rect whose sides four walks from a place come to: the cursor is set back there after each.
+fn sides(layer: Layer, at: Point, lines: Lines) -> Result<Rect, Refusal>
+    requires { Place layer.width layer.height at.x at.y × (lines ≡ Body) }
+    ensures { result ≡ body_of (picture_of layer.entry) layer.entry.width layer.entry.height at.x at.y }
 {
-    let mut cursor = Point { x, y };
-    let up = cursors::search(Direction::Up, layer, w, h, &mut cursor, lines);
+    let mut cursor = at;
+    let up = cursors::search(Direction::Up, layer, &mut cursor, lines);
     let top = cursor.y;
-    cursor = Point { x, y };
-    let down = cursors::search(Direction::Down, layer, w, h, &mut cursor, lines);
+    cursor = at;
+    let down = cursors::search(Direction::Down, layer, &mut cursor, lines);
     let bottom = cursor.y;
-    cursor = Point { x, y };
-    let left = cursors::search(Direction::Left, layer, w, h, &mut cursor, lines);
-    let first = cursor.x;
-    cursor = Point { x, y };
-    let right = cursors::search(Direction::Right, layer, w, h, &mut cursor, lines);
-    closed(
-        first, top, cursor.x, bottom, first, top, up, down, left, right,
-    )
+    cursor = at;
+    let left = cursors::search(Direction::Left, layer, &mut cursor, lines);
+    let start = Point {
+        x: cursor.x,
+        y: top,
+    };
+    cursor = at;
+    let right = cursors::search(Direction::Right, layer, &mut cursor, lines);
+    let corner = Point {
+        x: cursor.x,
+        y: bottom,
+    };
+    closed(start, corner, start, up, down, left, right)
 }
 
-// The body of the table whose main crossing stands in column x of row y.
-pub fn recognize_body(
-    layer: &[u32],
-    w: usize,
-    h: usize,
-    x: usize,
-    y: usize,
-) -> Result<Rect, Refusal>
-    requires { Place w h x y (length layer.now) }
-    ensures { result ≡ body_of (canvas w h layer.now) w h x y }
+// The body of the table whose main crossing stands at a place.
+pub fn recognize_body(layer: Layer, at: Point) -> Result<Rect, Refusal>
+    requires { Place layer.width layer.height at.x at.y }
+    ensures { result ≡ body_of (picture_of layer.entry) layer.entry.width layer.entry.height at.x at.y }
 {
-    sides(layer, w, h, x, y, Lines::Body)
+    sides(layer, at, Lines::Body)
 }
 
-// A walk from column x of row y, on a cursor of its own.
+// A walk from a place, on a cursor of its own.
 #[inline(always)]
-fn walk_from(
-    d: Direction,
-    layer: &[u32],
-    w: usize,
-    h: usize,
-    x: usize,
-    y: usize,
-    lines: Lines,
-) -> Result<usize, Refusal>
-    requires { Place w h x y (length layer.now) }
-    ensures { result ≡ along_of lines d (canvas w h layer.now) w h x y }
+fn walk_from(d: Direction, layer: Layer, at: Point, lines: Lines) -> Result<usize, Refusal>
+    requires { Place layer.width layer.height at.x at.y }
+    ensures { result ≡ along_of lines d (picture_of layer.entry) layer.entry.width layer.entry.height at.x at.y }
 {
-    let mut cursor = Point { x, y };
-    cursors::search(d, layer, w, h, &mut cursor, lines)
+    let mut cursor = at;
+    cursors::search(d, layer, &mut cursor, lines)
 }
 
-// The walk to an annotation crossing on the right of column x of row y.
-pub fn crossing_right(
-    layer: &[u32],
-    w: usize,
-    h: usize,
-    x: usize,
-    y: usize,
-) -> Result<usize, Refusal>
-    requires { Place w h x y (length layer.now) }
-    ensures { result ≡ along_of Crossing Right (canvas w h layer.now) w h x y }
+// The walk to an annotation crossing on the right of a place.
+pub fn crossing_right(layer: Layer, at: Point) -> Result<usize, Refusal>
+    requires { Place layer.width layer.height at.x at.y }
+    ensures { result ≡ along_of Crossing Right (picture_of layer.entry) layer.entry.width layer.entry.height at.x at.y }
 {
-    walk_from(Direction::Right, layer, w, h, x, y, Lines::Crossing)
+    walk_from(Direction::Right, layer, at, Lines::Crossing)
 }
 
 // The walk to one below.
-pub fn crossing_below(
-    layer: &[u32],
-    w: usize,
-    h: usize,
-    x: usize,
-    y: usize,
-) -> Result<usize, Refusal>
-    requires { Place w h x y (length layer.now) }
-    ensures { result ≡ along_of Crossing Down (canvas w h layer.now) w h x y }
+pub fn crossing_below(layer: Layer, at: Point) -> Result<usize, Refusal>
+    requires { Place layer.width layer.height at.x at.y }
+    ensures { result ≡ along_of Crossing Down (picture_of layer.entry) layer.entry.width layer.entry.height at.x at.y }
 {
-    walk_from(Direction::Down, layer, w, h, x, y, Lines::Crossing)
+    walk_from(Direction::Down, layer, at, Lines::Crossing)
 }

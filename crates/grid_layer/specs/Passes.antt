@@ -1,11 +1,20 @@
 -- What the inner functions of the GRID pass leave in the layer: no caller needs these.
-use Rattle.std.specs.Prelude.{List, ◌≡◌, ℕ, eqb, get_or}
+use Rattle.std.specs.Prelude.{List, ◌≡◌, ℕ, ◌+◌, ◌*◌, ◌<◌, eqb, get_or}
 use Rattle.lists.specs.Choose.{choose}
 use Rattle.lists.specs.Line.{store_at}
 use Rattle.lists.specs.OneOf.{any_at}
 use Rattle.lists.specs.Turns.{turns}
 use Rattle.grid_layer.specs.Grid.{carried_code}
+use Rattle.grid_layer.specs.declared.Line.{Line}
 use Rattle.grid_layer.specs.declared.Stroke.{Stroke}
+
+-- where the kth character of a line stands
+abbrev pub place_in : Line → ℕ → ℕ
+place_in l k = l.base + k * l.stride
+
+-- a line of a list of `len` characters
+abbrev pub InLine : Line → ℕ → Type 0
+InLine l len = (k : ℕ) → k < l.count → place_in l k < len
 
 -- the line's own character stays, wherever the line is carried across it
 abbrev pub LineStays : Stroke → Type 0

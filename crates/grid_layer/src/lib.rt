@@ -5,12 +5,14 @@ ghost use Rattle.std.specs.Prelude.{◌++◌, ◌≡◌, ℕ, ◌+◌, ◌*◌, 
 ghost use Rattle.lists.specs.Line.{placed};
 ghost use Rattle.lists.specs.OneOf.{any_at};
 ghost use Rattle.lists.specs.Picture.{canvas};
-ghost use Rattle.thin_layer.specs.Sizes.{LayersOf, BodyIn};
-ghost use Rattle.grid_layer.specs.Grid.{carried_code, carried_layers, grid_picture};
-ghost use Rattle.grid_layer.specs.Passes.{LineStays, line_carried, lines_carried};
+ghost use Rattle.model.specs.Layers.{picture_of};
+ghost use Rattle.thin_layer.specs.Sizes.{Bounded, BodyIn};
+ghost use Rattle.grid_layer.specs.Grid.{carried_code, grid_picture};
+ghost use Rattle.grid_layer.specs.Passes.{place_in, InLine, LineStays, line_carried, lines_carried};
 
 use model::Rect;
 use model::box_drawing::*;
+use model::layer::Layer;
 
 // The characters of a direction: the line that is carried on, the line that it crosses, and its two ends.
 #[derive(Clone, Copy)]
@@ -53,24 +55,22 @@ fn carried_code(d: Stroke, off: usize, n: usize, k: usize, c: u32) -> u32
     c
 }
 
-// The four layers of a character, with GRID carried across.
-fn carried(c: [u32; 4], d: Stroke, off: usize, n: usize, k: usize) -> [u32; 4]
-    requires { (k < n) × (off + n < 2 ^ 32) }
-    ensures { result ≡ carried_layers d off n k c }
-{
-    let g = c[3];
-    let mut out = c;
-    out[3] = carried_code(d, off, n, k, g);
-    out
+// A line of the body: its first place, the places between two of its characters, how many it has, and how far from the canvas's side it starts.
+#[derive(Clone, Copy)]
+pub struct Line {
+    pub base: usize,
+    pub stride: usize,
+    pub count: usize,
+    pub off: usize,
 }
 
-// Whether one of n characters from `base` on, `stride` apart, is `code`.
-fn has_code(s: &[u32], base: usize, stride: usize, n: usize, code: u32) -> bool
-    requires { (k : ℕ) → k < n → base + k * stride < length s.now }
-    ensures { result ≡ any_at (λ k. eqb (get_or s.now (base + k * stride) 0) code) n }
+// Whether a line has a character.
+fn has_code(s: &[u32], l: Line, code: u32) -> bool
+    requires { InLine l (length s.now) }
+    ensures { result ≡ any_at (λ k. eqb (get_or s.now (place_in l k) 0) code) l.count }
 {
-    for k in 0..n {
-        if s[base + k * stride] == code {
+    for k in 0..l.count {
+        if s[l.base + k * l.stride] == code {
             return true;
         }
     }
@@ -78,18 +78,8 @@ fn has_code(s: &[u32], base: usize, stride: usize, n: usize, code: u32) -> bool
 }
 
 // The character at `at`, place k of its line. Most are the line itself, and stay.
-fn carry_at(
-    text: &[u32],
-    thins: &[u32],
-    bodies: &[u32],
-    grid: &mut [u32],
-    d: Stroke,
-    at: usize,
-    off: usize,
-    n: usize,
-    k: usize,
-)
-    requires at_in_bounds { (at < length text.now) × ((at < length thins.now) × ((at < length bodies.now) × (at < length grid.old))) }
+fn carry_at(grid: &mut [u32], d: Stroke, at: usize, off: usize, n: usize, k: usize)
+    requires at_in_bounds { at < length grid.old }
     requires k_lt_n { (k < n) × (off + n < 2 ^ 32) }
     requires line_stays { LineStays d }
     ensures { grid.new ≡ set grid.old at (carried_code d off n k (get_or grid.old at 0)) }
@@ -97,65 +87,40 @@ fn carry_at(
     if grid[at] == d.line {
         return;
     }
-    let c = carried([text[at], thins[at], bodies[at], grid[at]], d, off, n, k);
-    grid[at] = c[3];
+    grid[at] = carried_code(d, off, n, k, grid[at]);
 }
 
 // A line that holds a character of its stroke is carried across.
-fn carry_line(
-    text: &[u32],
-    thins: &[u32],
-    bodies: &[u32],
-    grid: &mut [u32],
-    d: Stroke,
-    base: usize,
-    stride: usize,
-    n: usize,
-    off: usize,
-)
-    requires by_index { (k : ℕ) → k < n → (base + k * stride < length text.now) × ((base + k * stride < length thins.now) × ((base + k * stride < length bodies.now) × (base + k * stride < length grid.old))) }
-    requires n_bound { off + n < 2 ^ 32 }
+fn carry_line(grid: &mut [u32], d: Stroke, l: Line)
+    requires by_index { InLine l (length grid.old) }
+    requires n_bound { l.off + l.count < 2 ^ 32 }
     requires line_stays { LineStays d }
-    ensures { grid.new ≡ line_carried d off (λ k. base + k * stride) n grid.old }
+    ensures { grid.new ≡ line_carried d l.off (place_in l) l.count grid.old }
 {
-    let line = d.line;
-    if has_code(grid, base, stride, n, line) {
-        for k in 0..n {
-            carry_at(text, thins, bodies, grid, d, base + k * stride, off, n, k);
+    if has_code(grid, l, d.line) {
+        for k in 0..l.count {
+            carry_at(grid, d, l.base + k * l.stride, l.off, l.count, k);
         }
     }
 }
 
-// Each of m lines, whose first characters stand `across` apart.
-fn carry_lines(
-    text: &[u32],
-    thins: &[u32],
-    bodies: &[u32],
-    grid: &mut [u32],
-    d: Stroke,
-    base: usize,
-    across: usize,
-    m: usize,
-    stride: usize,
-    n: usize,
-    off: usize,
-)
-    requires by_index { (j k : ℕ) → j < m → k < n → (placed base across stride j k < length text.now) × ((placed base across stride j k < length thins.now) × ((placed base across stride j k < length bodies.now) × (placed base across stride j k < length grid.old))) }
-    requires n_nonzero { (0 < n) × (off + n < 2 ^ 32) }
+// Each of m lines, of which `l` is the first, and whose first characters stand `across` apart.
+fn carry_lines(grid: &mut [u32], d: Stroke, l: Line, across: usize, m: usize)
+    requires by_index { (j k : ℕ) → j < m → k < l.count → placed l.base across l.stride j k < length grid.old }
+    requires n_nonzero { (0 < l.count) × (l.off + l.count < 2 ^ 32) }
     requires line_stays { LineStays d }
-    ensures { grid.new ≡ lines_carried d off (placed base across stride) m n grid.old }
+    ensures { grid.new ≡ lines_carried d l.off (placed l.base across l.stride) m l.count grid.old }
 {
     for j in 0..m {
         carry_line(
-            text,
-            thins,
-            bodies,
             grid,
             d,
-            base + j * across,
-            stride,
-            n,
-            off,
+            Line {
+                base: l.base + j * across,
+                stride: l.stride,
+                count: l.count,
+                off: l.off,
+            },
         );
     }
 }
@@ -169,40 +134,40 @@ fn copy_layer(src: &[u32], dst: &mut [u32], n: usize)
 }
 
 // GRID of BODY: the lines of the body are carried across it.
-pub fn make_grid(
-    text: &[u32],
-    thins: &[u32],
-    bodies: &[u32],
-    grid: &mut [u32],
-    width: usize,
-    rows: usize,
-    r: Rect,
-)
-    requires { LayersOf width rows text.now thins.now bodies.now grid.old × BodyIn width rows r }
-    ensures { canvas width rows grid.new ≡ grid_picture r (canvas width rows bodies.now) }
+pub fn make_grid(bodies: Layer, grid: &mut [u32], r: Rect)
+    requires sizes { Bounded bodies.width bodies.height × (bodies.height * bodies.width ≤ length grid.old) }
+    requires body { BodyIn bodies.width bodies.height r }
+    ensures { canvas bodies.entry.width bodies.entry.height grid.new ≡ grid_picture r (picture_of bodies.entry) }
 {
-    let left = r.left;
-    let top = r.top;
-    let columns = r.right - left;
-    let lines = r.bottom - top;
-    copy_layer(bodies, grid, rows * width);
-    let base = top * width + left;
+    let width = bodies.width;
+    let columns = r.right - r.left;
+    let lines = r.bottom - r.top;
+    copy_layer(bodies.codes, grid, bodies.height * width);
+    let base = r.top * width + r.left;
     let across = Stroke {
         line: LIGHT_HORIZONTAL,
         crossed: LIGHT_VERTICAL,
         first: LIGHT_VERTICAL_AND_RIGHT,
         last: LIGHT_VERTICAL_AND_LEFT,
     };
-    carry_lines(
-        text, thins, bodies, grid, across, base, width, lines, 1, columns, left,
-    );
+    let row = Line {
+        base,
+        stride: 1,
+        count: columns,
+        off: r.left,
+    };
+    carry_lines(grid, across, row, width, lines);
     let down = Stroke {
         line: LIGHT_VERTICAL,
         crossed: LIGHT_HORIZONTAL,
         first: LIGHT_DOWN_AND_HORIZONTAL,
         last: LIGHT_UP_AND_HORIZONTAL,
     };
-    carry_lines(
-        text, thins, bodies, grid, down, base, 1, columns, width, lines, 0,
-    );
+    let column = Line {
+        base,
+        stride: width,
+        count: lines,
+        off: 0,
+    };
+    carry_lines(grid, down, column, 1, columns);
 }

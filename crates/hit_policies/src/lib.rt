@@ -1,4 +1,5 @@
 // The hit policy that a text is.
+// A policy is told by the bytes of a text, so the cases are numbers.
 #![tactic(auto)]
 
 ghost use Rattle.std.specs.Prelude.{◌≡◌, [], ◌∷◌};

@@ -2,12 +2,14 @@
 #![tactic(auto)]
 
 ghost use Rattle.std.specs.Prelude.{◌≡◌, ◌+◌, ◌≤◌};
-ghost use Rattle.cells.specs.Plane.{plane_in, PlaneFits};
+ghost use Rattle.cells.specs.Slices.{plane_of};
 ghost use Rattle.layouts.specs.Layouts.{one_layout, named_layout, labelled_layout, many_layout, layout_of};
 
+use cells::plane::Plane;
 use model::Refusal;
 
 // What the output clauses have.
+// Three facts of the sheet: no value hangs on them.
 #[derive(Clone, Copy)]
 pub struct Layout {
     pub labelled: bool,
@@ -16,12 +18,11 @@ pub struct Layout {
 }
 
 // One output, in column x, under h clause rows.
-fn lay_one(plane: &[u32], rows: usize, x: usize, h: usize) -> Result<Layout, Refusal>
-    requires { PlaneFits plane.now rows }
-    ensures { result ≡ one_layout (plane_in plane.now rows) x h }
+fn lay_one(plane: Plane, x: usize, h: usize) -> Result<Layout, Refusal>
+    ensures { result ≡ one_layout (plane_of plane.entry) x h }
 {
     if h == 1 {
-        cell_tests::region_at(plane, rows, 0, x)?;
+        cell_tests::region_at(plane, 0, x)?;
         return Ok(Layout {
             labelled: true,
             named: false,
@@ -29,7 +30,7 @@ fn lay_one(plane: &[u32], rows: usize, x: usize, h: usize) -> Result<Layout, Ref
         });
     }
     if h == 2 {
-        let labelled = cell_tests::column_is(plane, rows, false, 0, x)?;
+        let labelled = cell_tests::column_is(plane, false, 0, x)?;
         return Ok(Layout {
             labelled,
             named: false,
@@ -39,20 +40,15 @@ fn lay_one(plane: &[u32], rows: usize, x: usize, h: usize) -> Result<Layout, Ref
     Err(Refusal::TooManyOutputRows)
 }
 
+// `valued` is a fact of the sheet, which the answer holds too.
 // Component names in row 0 and, if valued, allowed values in row 1.
-fn lay_named(
-    plane: &[u32],
-    rows: usize,
-    x: usize,
-    m: usize,
-    valued: bool,
-) -> Result<Layout, Refusal>
-    requires { PlaneFits plane.now rows × (x + m ≤ 128) }
-    ensures { result ≡ named_layout (plane_in plane.now rows) x m valued }
+fn lay_named(plane: Plane, x: usize, m: usize, valued: bool) -> Result<Layout, Refusal>
+    requires { x + m ≤ 128 }
+    ensures { result ≡ named_layout (plane_of plane.entry) x m valued }
 {
-    passes::pass_row(plane, rows, 0, x, m)?;
+    passes::pass_row(plane, 0, x, m)?;
     if valued {
-        passes::pass_row(plane, rows, 1, x, m)?;
+        passes::pass_row(plane, 1, x, m)?;
     }
     Ok(Layout {
         labelled: false,
@@ -62,20 +58,14 @@ fn lay_named(
 }
 
 // A label in row 0, component names in row 1 and, if valued, allowed values in row 2.
-fn lay_labelled(
-    plane: &[u32],
-    rows: usize,
-    x: usize,
-    m: usize,
-    valued: bool,
-) -> Result<Layout, Refusal>
-    requires { PlaneFits plane.now rows × (x + m ≤ 128) }
-    ensures { result ≡ labelled_layout (plane_in plane.now rows) x m valued }
+fn lay_labelled(plane: Plane, x: usize, m: usize, valued: bool) -> Result<Layout, Refusal>
+    requires { x + m ≤ 128 }
+    ensures { result ≡ labelled_layout (plane_of plane.entry) x m valued }
 {
-    cell_tests::region_at(plane, rows, 0, x)?;
-    passes::pass_row(plane, rows, 1, x, m)?;
+    cell_tests::region_at(plane, 0, x)?;
+    passes::pass_row(plane, 1, x, m)?;
     if valued {
-        passes::pass_row(plane, rows, 2, x, m)?;
+        passes::pass_row(plane, 2, x, m)?;
     }
     Ok(Layout {
         labelled: true,
@@ -85,46 +75,32 @@ fn lay_labelled(
 }
 
 // m outputs from column x on, under h clause rows.
-fn lay_many(
-    plane: &[u32],
-    rows: usize,
-    x: usize,
-    m: usize,
-    h: usize,
-    valued: bool,
-) -> Result<Layout, Refusal>
-    requires { PlaneFits plane.now rows × (x + m ≤ 128) }
-    ensures { result ≡ many_layout (plane_in plane.now rows) x m h valued }
+fn lay_many(plane: Plane, x: usize, m: usize, h: usize, valued: bool) -> Result<Layout, Refusal>
+    requires { x + m ≤ 128 }
+    ensures { result ≡ many_layout (plane_of plane.entry) x m h valued }
 {
     if h == 1 {
-        return lay_named(plane, rows, x, m, false);
+        return lay_named(plane, x, m, false);
     }
     if h == 2 {
         if valued {
-            return lay_named(plane, rows, x, m, true);
+            return lay_named(plane, x, m, true);
         }
-        return lay_labelled(plane, rows, x, m, false);
+        return lay_labelled(plane, x, m, false);
     }
-    lay_labelled(plane, rows, x, m, true)
+    lay_labelled(plane, x, m, true)
 }
 
 // The output clauses.
-pub fn lay_out(
-    plane: &[u32],
-    rows: usize,
-    x: usize,
-    m: usize,
-    h: usize,
-    valued: bool,
-) -> Result<Layout, Refusal>
-    requires { PlaneFits plane.now rows × (x + m ≤ 128) }
-    ensures { result ≡ layout_of (plane_in plane.now rows) x m h valued }
+pub fn lay_out(plane: Plane, x: usize, m: usize, h: usize, valued: bool) -> Result<Layout, Refusal>
+    requires { x + m ≤ 128 }
+    ensures { result ≡ layout_of (plane_of plane.entry) x m h valued }
 {
     if m == 0 {
         return Err(Refusal::NoOutputClause);
     }
     if m == 1 {
-        return lay_one(plane, rows, x, h);
+        return lay_one(plane, x, h);
     }
-    lay_many(plane, rows, x, m, h, valued)
+    lay_many(plane, x, m, h, valued)
 }

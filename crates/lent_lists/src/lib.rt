@@ -1,4 +1,5 @@
 // The lists of a lent plane in a text: where they end, and their bytes as wider numbers.
+// Places are indices into the whole text, as in `utf8`.
 #![tactic(auto)]
 
 ghost use Rattle.std.specs.Prelude.{◌≡◌, ◌+◌, ◌-◌, ◌≤◌, length, take, drop};

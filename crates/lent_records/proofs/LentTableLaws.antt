@@ -1,21 +1,17 @@
 -- The table of a lent plane, from its plane and its texts.
 use Rattle.std.specs.Prelude.{Ok, Err, None}
-use mathlib.Core.Path.{◌≡◌, refl, sym}
-use mathlib.Core.Bool.{false}
-use mathlib.Core.List.{List}
-use Prim.Native.Nat.{ℕ, ◌≤◌}
+use mathlib.Core.Path.{◌≡◌, sym}
+use Prim.Native.Nat.{◌≤◌}
 use lib.ListN.{length}
 use Rattle.lists.proofs.AnswerLaws.{refused-ok}
-use Rattle.lists.proofs.Tests.{by_flag, true_false}
+use Rattle.lists.proofs.Tests.{by_flag}
 use Rattle.model.specs.Limits.{text_bytes}
 use Rattle.model.specs.declared.Refusal.{Refusal}
-use Rattle.cells.specs.Held.{Held}
 use Rattle.cells.specs.Plane.{TextPlane}
 use Rattle.lent.specs.LentPlane.{LentPlane, well_formed, lent_of}
 use Rattle.lent.proofs.FormLaws.{parts_good_lem}
 use Rattle.recognizer.specs.StatedPolicy.{stated_policy}
 use Rattle.recognizer.specs.Told.{table_read}
-use Rattle.tables.specs.NamedTable.{NameIn}
 use Rattle.policies.specs.LentPolicy.{text_in, lent_policy}
 
 module _ (l : LentPlane) where
@@ -31,7 +27,3 @@ module _ (l : LentPlane) where
     pub few_bytes : length l.bytes ≤ text_bytes
     unfolding lent_of
     few_bytes = by_flag (well_formed l) (λ h. (parts_good_lem l h).few) (λ h. refused-ok (sym (rw h at e)))
-
--- a lent plane has no name
-pub no_name : {d : List ℕ} {n : ℕ} {bytes ss : List ℕ} {count : ℕ} → Held d n bytes ss count → length bytes ≤ text_bytes → NameIn false bytes ss count
-no_name h l = record { first = λ t. true_false t refl; few = l; two_each = h.two_each; inside = h.inside }

@@ -9,6 +9,9 @@ ghost use Rattle.records.specs.Outcomes.{outcome_of, record_of};
 ghost use Rattle.lent.specs.Lent.{lists_of};
 ghost use Rattle.lent_records.specs.LentTable.{LentRoom};
 
+use cells::plane::Plane;
+use cells::text_plane::TextPlane;
+use cells::texts::Texts;
 use lent::Lent;
 use model::Refusal;
 use recognizer::SlotTable;
@@ -25,17 +28,16 @@ fn lent_table(
     ensures table { named_table result l.entry.bytes.now slots.new ≡ table_read (lent_policy (lists_of l.entry)) }
     ensures held { AnswerHeld result l.entry.bytes.now slots.new }
 {
-    let n = lent::load(l, plane, spans)?;
-    tables::plane_table(
-        plane,
-        n,
-        l.bytes,
-        spans,
-        l.offsets.len(),
-        false,
-        upright,
-        slots,
-    )
+    let rows = lent::load(l, plane, spans)?;
+    let sheet = TextPlane {
+        plane: Plane { cells: plane, rows },
+        texts: Texts {
+            bytes: l.bytes,
+            spans,
+            count: l.offsets.len(),
+        },
+    };
+    tables::plane_table(sheet, false, upright, slots)
 }
 
 // The record of a lent plane.

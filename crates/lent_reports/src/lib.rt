@@ -1,20 +1,23 @@
 // What is printed for a lent plane.
 #![tactic(auto)]
 
-ghost use Rattle.std.specs.Prelude.{◌+◌, ◌≤◌, length};
+ghost use Rattle.std.specs.Prelude.{◌+◌, ◌≤◌};
+ghost use Rattle.arrayvec.specs.ArrayVec.{array_vec_len};
 ghost use Rattle.policies.specs.LentPolicy.{lent_policy};
 ghost use Rattle.print.specs.Decimal.{Written};
 ghost use Rattle.lent.specs.Lent.{lists_of};
 ghost use Rattle.outcome_lines.specs.PolicyLines.{record_bytes, policy_lines, report_bytes};
 
+use arrayvec::ArrayVec;
 use lent::Lent;
 use outcome_lines::RECORD_BYTES;
 
 // The lines for a lent plane.
-pub fn put_lent_plane(out: &mut [u8], at: usize, l: Lent) -> usize
-    requires { at + report_bytes ≤ length out.old }
-    ensures { Written out.old out.new at (policy_lines record_bytes (lent_policy (lists_of l.entry))) report_bytes result }
+pub fn put_lent_plane<const N: usize>(out: &mut ArrayVec<u8, N>, l: Lent)
+    requires { array_vec_len out.old + report_bytes ≤ N }
+    ensures { Written out.old.items out.new.items (policy_lines record_bytes (lent_policy (lists_of l.entry))) report_bytes }
 {
+    // Work slices, as a caller in C lends them: nothing is allocated.
     let mut plane = [0u32; 4160];
     let mut spans = [0u32; 2048];
     let mut upright = [0u32; 4160];
@@ -28,5 +31,5 @@ pub fn put_lent_plane(out: &mut [u8], at: usize, l: Lent) -> usize
         &mut slots,
         &mut record,
     );
-    outcome_lines::put_outcome(out, at, stated, &record)
+    outcome_lines::put_outcome(out, stated, &record);
 }

@@ -1,4 +1,5 @@
 // The end of a line, sought over plain bytes, and the check of a text line by line.
+// Places are indices into the whole text, as in `utf8`.
 #![tactic(auto)]
 
 ghost use Rattle.std.specs.Prelude.{true, ◌≡◌, ◌+◌, ◌≤◌, length, drop};
@@ -74,13 +75,12 @@ pub fn line_end(s: &[u8], from: usize) -> LineEnd
     let mut p = skip_plain(s, from);
     // No `for`: each turn goes on by the bytes of a code point.
     while p < s.len() {
-        let n = utf8::passed(s, p);
-        if n == 0 {
+        let Some(n) = utf8::passed(s, p) else {
             return LineEnd {
                 next: s.len(),
                 valid: p,
             };
-        }
+        };
         if s[p] == 10 {
             return LineEnd {
                 next: p + 1,

@@ -1,20 +1,18 @@
 -- The bytes of a line that are being read.
 use Rattle.std.specs.Prelude.{Option, Some, None}
 use mathlib.Core.Bool.{Bool, true, false}
-use mathlib.Core.Path.{◌≡◌, refl, sym, ap, subst, ◌∙◌}
+use mathlib.Core.Path.{◌≡◌, refl, sym, ap, ◌∙◌}
 use mathlib.Core.List.{List, [], ◌∷◌, ◌++◌, append_assoc, append-nil}
 use Prim.Native.Nat.{ℕ, suc, ◌+◌, ◌-◌, ◌≤◌, ◌<◌}
-use native.Mathlib.Numerals.{add-one}
 use native.Mathlib.Omega.{arith}
-use borrow.Author.Tests.{eqb-true, eqb-false, leb-true}
-use lib.Dec.{eqb, leb}
-use lib.ListN.{length, take, drop, set, length-set, drop_of_length-le}
-use lib.Seq.{take-suc-set, length-take-le, drop-drop}
+use borrow.Author.Tests.{leb-true}
+use lib.Dec.{leb}
+use lib.ListN.{length, take, drop, length-append, drop_of_length-le}
+use lib.Seq.{length-take-le, drop-drop}
 use Rattle.lists.proofs.Parts.{at_cons}
-use Rattle.lists.proofs.Tests.{by_flag}
 use Rattle.numerals.specs.RuleNumbers.{number_of}
 use Rattle.print.specs.Lines.{blank}
-use Rattle.lines.specs.Texts.{before, FirstAt, at_most, on_number, onto, nothing_in, bytes_in, text_of, bytes_by, TextWithin}
+use Rattle.lines.specs.Texts.{before, FirstAt, at_most, on_number, onto, nothing_in, bytes_in, text_of}
 
 onto_nil : (x : Option (List ℕ)) → onto [] x ≡ x
 onto_nil None = refl
@@ -37,19 +35,18 @@ module _ {s : List ℕ} {at end : ℕ} (f : FirstAt s at blank end) where
       ap (λ (n : ℕ). drop n (drop at s)) word-length ∙ drop-drop (end - at) at s ∙ ap (λ (n : ℕ). drop n s) e
 
 -- k of the bytes are read, up to `at`, and stand in text
-pub record Reading (line : List ℕ) (from count : ℕ) (text₀ text : List ℕ) (at k : ℕ) : Type 0 where
+pub record Reading (line : List ℕ) (from count : ℕ) (text : List ℕ) (at k : ℕ) : Type 0 where
   pub along : k ≤ count
   pub inside : at ≤ length line
-  pub fits : count ≤ length text₀
-  pub long : length text ≡ length text₀
-  pub same : bytes_in count (drop from line) ≡ onto (take k text) (bytes_in (count - k) (drop at line))
+  pub long : length text ≡ k
+  pub same : bytes_in count (drop from line) ≡ onto text (bytes_in (count - k) (drop at line))
 
-pub reading_start : {line : List ℕ} {from count : ℕ} {text : List ℕ} → from ≤ length line → count ≤ length text → Reading line from count text text from 0
-reading_start {line} {from} {count} {text} h f =
+pub reading_start : {line : List ℕ} {from count : ℕ} {text : List ℕ} → from ≤ length line → text ≡ [] → Reading line from count text from 0
+reading_start {line} {from} {count} {text} h e =
     let z : count - 0 ≡ count = omega arith in
-    record { along = omega arith; inside = h; fits = f; long = refl; same = sym (onto_nil _) ∙ rw z }
+    rw e (record { along = omega arith; inside = h; long = refl; same = sym (onto_nil _) ∙ rw z })
 
-module _ {line : List ℕ} {from count : ℕ} {text₀ text : List ℕ} {at k : ℕ} (q : Reading line from count text₀ text at k) where
+module _ {line : List ℕ} {from count : ℕ} {text : List ℕ} {at k : ℕ} (q : Reading line from count text at k) where
   module _ (h : k < count) where
     left : count - k ≡ suc (count - (k + 1))
     left = omega arith
@@ -69,37 +66,31 @@ module _ {line : List ℕ} {from count : ℕ} {text₀ text : List ℕ} {at k : 
 
       -- its word is no byte, or one
       pub reading_bad : None ≡ at_most 255 (number_of (take (end - (at + 1)) (drop (at + 1) line))) → bytes_in count (drop from line) ≡ None
-      reading_bad n = q.same ∙ ap (onto (take k text)) (next n)
+      reading_bad n = q.same ∙ ap (onto text) (next n)
 
-      pub reading_more : {v : ℕ} → Some v ≡ at_most 255 (number_of (take (end - (at + 1)) (drop (at + 1) line)))
-          → Reading line from count text₀ (set text k v) end (k + 1)
-      reading_more {v} n =
-          let b = q.fits in
-          let g = q.long in
+      pub reading_more : {v : ℕ} {more : List ℕ} → Some v ≡ at_most 255 (number_of (take (end - (at + 1)) (drop (at + 1) line)))
+          → more ≡ text ++ (v ∷ []) → Reading line from count more end (k + 1)
+      reading_more {v} {more} n w =
           let x : Option (List ℕ) = bytes_in (count - (k + 1)) (drop end line) in
-          let w : take (k + 1) (set text k v) ≡ take k text ++ (v ∷ []) = rw (add-one k) (take-suc-set text k v (omega arith)) in
           record {
             along = omega arith;
             inside = f.high;
-            fits = q.fits;
-            long = length-set text k v ∙ q.long;
-            same = q.same ∙ ap (onto (take k text)) (next n) ∙ onto-onto (take k text) (v ∷ []) x ∙ rw w;
+            long = omega (arith, ap length w ∙ length-append text (v ∷ []), q.long);
+            same = q.same ∙ ap (onto text) (next n) ∙ onto-onto text (v ∷ []) x ∙ rw w;
           }
 
-  -- all bytes are read
-  pub reading_end : count ≤ k → bytes_in count (drop from line) ≡ bytes_by (eqb at (length line)) count text
-  unfolding bytes_in
-  reading_end h =
-      let e : k ≡ count = omega (arith, q.along) in
-      let z : count - k ≡ 0 = omega arith in
-      let s : bytes_in count (drop from line) ≡ onto (take count text) (nothing_in (drop at line)) =
-      q.same ∙ rw (z, e) in
-      by_flag (eqb at (length line))
-      (λ t. rw t (s ∙ rw (drop_of_length-le line {i = at} (omega (arith, eqb-true at (length line) t))) (ap Some (append-nil (take count text)))))
-      (λ t. rw t (s ∙ rw (at_cons line at 0 (short (eqb-false at (length line) t)))))
-    where
-      short : (at ≡ length line → ⊥) → at < length line
-      short n = omega (arith, n, q.inside)
+  module _ (h : count ≤ k) where
+    rest : bytes_in count (drop from line) ≡ onto text (nothing_in (drop at line))
+    unfolding bytes_in
+    rest = let z : count - k ≡ 0 = omega arith in q.same ∙ rw z
+
+    -- something is left
+    pub reading_left : at < length line → bytes_in count (drop from line) ≡ None
+    reading_left l = rest ∙ rw (at_cons line at 0 l)
+
+    -- all bytes are read
+    pub reading_end : length line ≤ at → bytes_in count (drop from line) ≡ Some text
+    reading_end l = rest ∙ rw (drop_of_length-le line l) (ap Some (append-nil text))
 
 -- a number that is not too large
 small : (most v : ℕ) (x : Option ℕ) → at_most most x ≡ Some v → v ≤ most
@@ -130,12 +121,3 @@ module _ {line : List ℕ} (most : ℕ) {end : ℕ} (f : FirstAt line 0 blank en
 
   pub count_small : {v : ℕ} → Some v ≡ at_most most (number_of (take (end - 0) (drop 0 line))) → v ≤ most
   count_small {v} n = small most v (number_of (take (end - 0) (drop 0 line))) (sym n)
-
-pub bytes_yes : {t : Bool} (n : ℕ) (d : List ℕ) → t ≡ true → bytes_by t n d ≡ Some (take n d)
-bytes_yes n d e = rw e
-
-pub bytes_no : {t : Bool} (n : ℕ) (d : List ℕ) → t ≡ false → bytes_by t n d ≡ None
-bytes_no n d e = rw e
-
-pub within : (r : Option ℕ) (d : List ℕ) {n : ℕ} → TextWithin r d → r ≡ Some n → n ≤ length d
-within r d {n} w e = subst (λ (r : Option ℕ). TextWithin r d) e w

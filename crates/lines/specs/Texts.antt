@@ -1,5 +1,6 @@
 -- Texts as the judge reads them behind a line's kind: the count of bytes and the bytes, one blank between two numbers.
-use Rattle.std.specs.Prelude.{Bool, true, false, List, [], ◌∷◌, ◌++◌, ◌≡◌, ℕ, zero, suc, ◌-◌, ◌≤◌, ◌<◌, eqb, leb, length, get_or, take, drop, Option, None, Some}
+use Rattle.std.specs.Prelude.{List, [], ◌∷◌, ◌++◌, ◌≡◌, ℕ, zero, suc, ◌-◌, ◌≤◌, ◌<◌, eqb, leb, length, get_or, take, drop, Option, None, Some}
+use Rattle.arrayvec.specs.ArrayVec.{ArrayVec}
 use Rattle.lists.specs.Choose.{choose}
 use Rattle.numerals.specs.RuleNumbers.{number_of}
 use Rattle.print.specs.Lines.{blank}
@@ -49,17 +50,7 @@ text_of most s =
     on_number (at_most most (number_of (before blank s)))
     (λ n. bytes_in n (drop (length (before blank s)) s))
 
--- the n bytes of a slice, by a flag
-abbrev pub bytes_by : Bool → ℕ → List ℕ → Option (List ℕ)
-bytes_by true n d = Some (take n d)
-bytes_by false n d = None
-
--- what was read of a line, with the bytes in the slice d
-abbrev pub text_in : Option ℕ → List ℕ → Option (List ℕ)
-text_in (Some n) d = Some (take n d)
-text_in None d = None
-
--- the bytes stand in the slice
-abbrev pub TextWithin : Option ℕ → List ℕ → Type 0
-TextWithin (Some n) d = n ≤ length d
-TextWithin None d = Unit {0}
+-- the bytes that a vector holds, if there is one
+abbrev pub items_of : Option (ArrayVec ℕ) → Option (List ℕ)
+items_of None = None
+items_of (Some v) = Some v.items

@@ -1,9 +1,12 @@
 // A line of input: the words of a line, and the text that stands behind a line's kind.
+// Places are indices into the whole text, as in `utf8`.
 #![tactic(auto)]
 
 ghost use Rattle.std.specs.Prelude.{◌≡◌, ◌≤◌, length, drop};
 ghost use Rattle.numerals.specs.RuleNumbers.{number_of};
-ghost use Rattle.lines.specs.Texts.{FirstAt, at_most, bytes_in, bytes_by, text_of, text_in, TextWithin};
+ghost use Rattle.lines.specs.Texts.{FirstAt, at_most, bytes_in, text_of, items_of};
+
+use arrayvec::ArrayVec;
 
 // Room for the answer to a line.
 pub const LINE_BYTES: usize = 550000;
@@ -32,36 +35,34 @@ fn small_number(word: &[u8], most: usize) -> Option<usize>
     None
 }
 
-// The bytes that stand in a line from a place on, each behind a blank, into text.
-fn read_bytes(line: &[u8], from: usize, count: usize, text: &mut [u8]) -> bool
-    requires { (from ≤ length line.now) × (count ≤ length text.old) }
-    ensures { bytes_in count (drop from line.now) ≡ bytes_by result count text.new }
+// The bytes that stand in a line from a place on, each behind a blank.
+fn read_bytes<const N: usize>(line: &[u8], from: usize, count: usize) -> Option<ArrayVec<u8, N>>
+    requires { (from ≤ length line.now) × (count ≤ N) }
+    ensures { bytes_in count (drop from line.now) ≡ items_of result }
 {
+    let mut text = ArrayVec::new();
     let mut at = from;
-    for k in 0..count {
+    for _ in 0..count {
         if line.len() <= at {
-            return false;
+            return None;
         }
         let start = at + 1;
         let end = find(line, start, 0x20);
-        let Some(b) = small_number(&line[start..end], 255) else {
-            return false;
-        };
-        text[k] = b as u8;
+        let b = small_number(&line[start..end], 255)?;
+        text.push(b as u8);
         at = end;
     }
-    at == line.len()
+    if at < line.len() {
+        return None;
+    }
+    Some(text)
 }
 
-// The text behind a kind, into text.
-pub fn read_text(line: &[u8], text: &mut [u8]) -> Option<usize>
-    ensures line_value { text_of (length text.old) line.now ≡ text_in result text.new }
-    ensures text_within { TextWithin result text.new }
+// The text behind a kind.
+pub fn read_text<const N: usize>(line: &[u8]) -> Option<ArrayVec<u8, N>>
+    ensures { text_of N line.now ≡ items_of result }
 {
     let end = find(line, 0, 0x20);
-    let count = small_number(&line[0..end], text.len())?;
-    if read_bytes(line, end, count, text) {
-        return Some(count);
-    }
-    None
+    let count = small_number(&line[0..end], N)?;
+    read_bytes(line, end, count)
 }

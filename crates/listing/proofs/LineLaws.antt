@@ -1,6 +1,6 @@
 -- Lines of a record that are being written.
 use mathlib.Core.Bool.{true, false}
-use mathlib.Core.Path.{◌≡◌, refl, sym, ap, ◌∙◌}
+use mathlib.Core.Path.{◌≡◌, sym, ap, ◌∙◌}
 use mathlib.Core.List.{List, ◌++◌, append_assoc, append-nil}
 use Prim.Native.Nat.{ℕ, zero, suc, ◌+◌, ◌-◌, ◌*◌, ◌≤◌, ◌<◌}
 use native.Mathlib.Numerals.{add-one}
@@ -8,24 +8,21 @@ use native.Mathlib.Omega.{arith}
 use lib.ListN.{length, take, drop, length-drop}
 use lib.Seq.{length-take-le}
 use Rattle.print.specs.Decimal.{Written}
-use Rattle.print.proofs.WrittenLaws.{written_nil, written_then, written_within, written_as}
+use Rattle.print.proofs.WrittenLaws.{written_nil, written_then, written_long, written_within, written_as}
 use Rattle.listing.specs.RecordLines.{slots_held, offset_of, length_of, is_absent, absent_line, present_line, slot_line, slot_lines, head_read, record_lines, lengths, Sound, head_room, line_room}
 
 -- four parts, one behind the other
-pub written_four : {d o u v e x y z w : List ℕ} {at a b c n p q s t : ℕ} → Written d o at x a p → Written o u p y b q → Written u v q z c s → Written v e s w n t
-    → length o ≡ length d → length u ≡ length o → at + a + b + c ≤ length d → Written d e at (x ++ (y ++ (z ++ w))) (a + (b + (c + n))) t
-written_four w1 w2 w3 w4 k l h =
-    written_then w1
-    (written_then w2 (written_then w3 w4 (omega (arith, w1.short, w2.short, w3.short))) (omega (arith, w1.short, w2.short)))
-    (omega (arith, w1.short))
+pub written_four : {d o u v e x y z w : List ℕ} {a b c n : ℕ} → Written d o x a → Written o u y b → Written u v z c → Written v e w n
+    → Written d e (x ++ (y ++ (z ++ w))) (a + (b + (c + n)))
+written_four w1 w2 w3 w4 = written_then w1 (written_then w2 (written_then w3 w4))
 
 -- a part of the bytes
-pub written_part : (r : List ℕ) (offset size : ℕ) {d o : List ℕ} {at a : ℕ} → offset + size ≤ length r
-    → (let t = take (offset + size - offset) (drop offset r) in Written d o at t (length t) a)
-    → Written d o at (take size (drop offset r)) size a
-written_part r offset size {d} {o} {at} {a} h u =
+pub written_part : (r : List ℕ) (offset size : ℕ) {d o : List ℕ} → offset + size ≤ length r
+    → (let t = take (offset + size - offset) (drop offset r) in Written d o t (length t))
+    → Written d o (take size (drop offset r)) size
+written_part r offset size {d} {o} h u =
     let z : offset + size - offset ≡ size = omega arith in
-    let w : Written d o at (take size (drop offset r)) (length (take size (drop offset r))) a = rw z at u in
+    let w : Written d o (take size (drop offset r)) (length (take size (drop offset r))) = rw z at u in
     let l : length (take size (drop offset r)) ≡ size = length-take-le size (drop offset r) (omega (arith, length-drop offset r)) in
     written_within w (omega arith)
 
@@ -61,41 +58,39 @@ lengths_grow r i zero n h = omega arith
 lengths_grow r i (suc k) zero h = absurd (omega arith)
 lengths_grow r i (suc k) (suc n) h = omega (arith, lengths_grow r (suc i) k n (omega arith))
 
--- the lines of the first i slots are written behind the first `at` bytes of o₀
-pub record Listing (o₀ : List ℕ) (at : ℕ) (r o : List ℕ) (n i : ℕ) : Type 0 where
+-- the lines of the first i slots are written behind o₀
+pub record Listing (o₀ r o : List ℕ) (i : ℕ) : Type 0 where
   pub along : i ≤ slots_held r
-  pub room : at + 287040 + length r ≤ length o₀
-  pub long : length o ≡ length o₀
-  pub written : Written o₀ o at (slot_lines r 0 i) (69 * i + lengths r 0 i) n
+  pub written : Written o₀ o (slot_lines r 0 i) (69 * i + lengths r 0 i)
 
-pub listing_start : (o : List ℕ) (at : ℕ) (r : List ℕ) → at + 287040 + length r ≤ length o → Listing o at r o at 0
+pub listing_start : (o r : List ℕ) → Listing o r o 0
 unfolding slot_lines lengths
-listing_start o at r h = record { along = omega arith; room = h; long = refl; written = written_nil o at }
+listing_start o r = record { along = omega arith; written = written_nil o }
 
-module _ {o₀ : List ℕ} {at : ℕ} {r o : List ℕ} {n i : ℕ} (q : Listing o₀ at r o n i) (s : Sound r) (h : i < slots_held r) where
+module _ {o₀ r o : List ℕ} {i : ℕ} (q : Listing o₀ r o i) (s : Sound r) (h : i < slots_held r) where
   -- the lengths of the slots, this one's among them
   next-length : lengths r 0 (i + 1) ≡ lengths r 0 i + length_of r i
   next-length = let z : 0 + i ≡ i = omega arith in rw (add-one i) (lengths-next r 0 i ∙ rw z)
 
-  next-room : n + 69 + length_of r i ≤ length o
-  next-room = omega (arith, q.written.short, q.room, q.long, s.few, s.packed, next-length, lengths_grow r 0 (i + 1) (slots_held r) (omega arith))
+  next-room : {most : ℕ} → length o₀ + 287040 + length r ≤ most → length o + 69 + length_of r i ≤ most
+  next-room room = omega (arith, written_long q.written, room, s.few, s.packed, next-length, lengths_grow r 0 (i + 1) (slots_held r) (omega arith))
 
-  pub listing_room : (n + 69 + length_of r i ≤ length o) × (48 + 8 * i ≤ length r) × (offset_of r i + length_of r i ≤ length r)
-  listing_room = (next-room, omega (arith, s.whole), s.inside i h)
+  pub listing_room : {most : ℕ} → length o₀ + 287040 + length r ≤ most
+      → (length o + 69 + length_of r i ≤ most) × (48 + 8 * i ≤ length r) × (offset_of r i + length_of r i ≤ length r)
+  listing_room room = (next-room room, omega (arith, s.whole), s.inside i h)
 
-  pub listing_more : {e : List ℕ} {m : ℕ} → Written o e n (slot_line r i) (69 + length_of r i) m → length e ≡ length o → Listing o₀ at r e m (i + 1)
-  listing_more {e} {m} u l =
+  pub listing_more : {e : List ℕ} → Written o e (slot_line r i) (69 + length_of r i) → Listing o₀ r e (i + 1)
+  listing_more {e} u =
       let z : 0 + i ≡ i = omega arith in
       let x : slot_lines r 0 i ++ slot_line r i ≡ slot_lines r 0 (i + 1) = rw (add-one i) (sym (lines_next r 0 i ∙ rw z)) in
-      let v = written_then q.written u (omega (arith, next-room, q.long)) in
-      record { along = omega arith; room = q.room; long = l ∙ q.long; written = written_within (written_as v x) (omega (arith, next-length)) }
+      record { along = omega arith; written = written_within (written_as (written_then q.written u) x) (omega (arith, next-length)) }
 
 -- all lines are written
-pub listing_end : {o₀ : List ℕ} {at : ℕ} {r o : List ℕ} {n i : ℕ} {d : List ℕ} {a : ℕ} → Listing o₀ at r o n i → Sound r → slots_held r ≤ i
-    → Written d o₀ a (head_read r) head_room at → at ≤ length d → Written d o a (record_lines r) (line_room (length r)) n
+pub listing_end : {o₀ r o d : List ℕ} {i : ℕ} → Listing o₀ r o i → Sound r → slots_held r ≤ i
+    → Written d o₀ (head_read r) head_room → Written d o (record_lines r) (line_room (length r))
 unfolding record_lines
-listing_end {o₀} {at} {r} {o} {n} {i} {d} {a} q s h u l =
+listing_end {o₀} {r} {o} {d} {i} q s h u =
     let b = q.along in
     let z : i ≡ slots_held r = omega arith in
     let p : lengths r 0 i ≤ length r = rw z s.packed in
-    written_within (written_as (written_then u q.written l) (ap (λ (k : ℕ). head_read r ++ slot_lines r 0 k) z)) (omega (arith, s.few))
+    written_within (written_as (written_then u q.written) (ap (λ (k : ℕ). head_read r ++ slot_lines r 0 k) z)) (omega (arith, s.few))

@@ -1,11 +1,15 @@
-// A record's lines, from its bytes, into a slice.
+// A record's lines, from its bytes.
+// Places are indices into the whole text, as in `utf8`.
 #![tactic(auto)]
 
 ghost use Rattle.std.specs.Prelude.{◌≡◌, ◌+◌, ◌*◌, ◌≤◌, ◌<◌, length, take, drop};
+ghost use Rattle.arrayvec.specs.ArrayVec.{array_vec_len};
 ghost use Rattle.print.specs.Decimal.{Written};
 ghost use Rattle.print.specs.Lines.{count_line};
 ghost use Rattle.record.specs.Compared.{word_at};
 ghost use Rattle.listing.specs.RecordLines.{is_absent, offset_of, length_of, part_words, slot_line, counts_read, count_room, head_read, head_room, record_lines, Sound, line_room};
+
+use arrayvec::ArrayVec;
 
 // The word at index `at`.
 fn word_at(bytes: &[u8], at: usize) -> usize
@@ -27,72 +31,70 @@ fn is_absent(offset: usize, size: usize) -> bool
 }
 
 // The word at index `k`, behind a name.
-fn put_line(out: &mut [u8], at: usize, name: &[u8], bytes: &[u8], k: usize) -> usize
-    requires { (at + length name.now + 21 ≤ length out.old) × (k + 4 ≤ length bytes.now) }
-    ensures { Written out.old out.new at (count_line name.now (word_at bytes.now k)) (length name.now + 21) result }
+fn put_line<const N: usize>(out: &mut ArrayVec<u8, N>, name: &[u8], bytes: &[u8], k: usize)
+    requires { (array_vec_len out.old + length name.now + 21 ≤ N) × (k + 4 ≤ length bytes.now) }
+    ensures { Written out.old.items out.new.items (count_line name.now (word_at bytes.now k)) (length name.now + 21) }
 {
-    print::put_count(out, at, name, word_at(bytes, k))
+    print::put_count(out, name, word_at(bytes, k));
 }
 
 // The counts, a line each.
-fn put_counts(out: &mut [u8], at: usize, bytes: &[u8]) -> usize
-    requires { (at + count_room ≤ length out.old) × (28 ≤ length bytes.now) }
-    ensures { Written out.old out.new at (counts_read bytes.now) count_room result }
+fn put_counts<const N: usize>(out: &mut ArrayVec<u8, N>, bytes: &[u8])
+    requires { (array_vec_len out.old + count_room ≤ N) × (28 ≤ length bytes.now) }
+    ensures { Written out.old.items out.new.items (counts_read bytes.now) count_room }
 {
-    let a = put_line(out, at, b"inputs ", bytes, 12);
-    let b = put_line(out, a, b"outputs ", bytes, 16);
-    let c = put_line(out, b, b"annotations ", bytes, 20);
-    put_line(out, c, b"rules ", bytes, 24)
+    put_line(out, b"inputs ", bytes, 12);
+    put_line(out, b"outputs ", bytes, 16);
+    put_line(out, b"annotations ", bytes, 20);
+    put_line(out, b"rules ", bytes, 24);
 }
 
 // Total bytes, policy, orientation and the counts, a line each.
-fn put_head(out: &mut [u8], at: usize, bytes: &[u8]) -> usize
-    requires { (at + head_room ≤ length out.old) × (28 ≤ length bytes.now) }
-    ensures { Written out.old out.new at (head_read bytes.now) head_room result }
+fn put_head<const N: usize>(out: &mut ArrayVec<u8, N>, bytes: &[u8])
+    requires { (array_vec_len out.old + head_room ≤ N) × (28 ≤ length bytes.now) }
+    ensures { Written out.old.items out.new.items (head_read bytes.now) head_room }
 {
-    let a = put_line(out, at, b"bytes ", bytes, 0);
-    let b = put_line(out, a, b"policy ", bytes, 4);
-    let c = put_line(out, b, b"orientation ", bytes, 8);
-    put_counts(out, c, bytes)
+    put_line(out, b"bytes ", bytes, 0);
+    put_line(out, b"policy ", bytes, 4);
+    put_line(out, b"orientation ", bytes, 8);
+    put_counts(out, bytes);
 }
 
 // The offset and the length of a part, and the part.
-fn put_part(out: &mut [u8], at: usize, bytes: &[u8], offset: usize, size: usize) -> usize
-    requires { (at + 44 + size ≤ length out.old) × (offset + size ≤ length bytes.now) }
-    ensures { Written out.old out.new at (part_words offset size (take size (drop offset bytes.now))) (44 + size) result }
+fn put_part<const N: usize>(out: &mut ArrayVec<u8, N>, bytes: &[u8], offset: usize, size: usize)
+    requires { (array_vec_len out.old + 44 + size ≤ N) × (offset + size ≤ length bytes.now) }
+    ensures { Written out.old.items out.new.items (part_words offset size (take size (drop offset bytes.now))) (44 + size) }
 {
-    let to = offset + size;
-    let a = print::put_behind(out, at, offset as u64);
-    let b = print::put_behind(out, a, size as u64);
-    let c = print::put_word(out, b, b" ");
-    let d = print::put_word(out, c, &bytes[offset..to]);
-    print::put_word(out, d, b"\n")
+    print::put_behind(out, offset as u64);
+    print::put_behind(out, size as u64);
+    out.push(b' ');
+    print::put_word(out, &bytes[offset..offset + size]);
+    out.push(b'\n');
 }
 
 // The line of slot i.
-fn put_slot(out: &mut [u8], at: usize, bytes: &[u8], i: usize) -> usize
-    requires { (at + 69 + length_of bytes.now i ≤ length out.old) × (48 + 8 * i ≤ length bytes.now) × (offset_of bytes.now i + length_of bytes.now i ≤ length bytes.now) }
-    ensures { Written out.old out.new at (slot_line bytes.now i) (69 + length_of bytes.now i) result }
+fn put_slot<const N: usize>(out: &mut ArrayVec<u8, N>, bytes: &[u8], i: usize)
+    requires { (array_vec_len out.old + 69 + length_of bytes.now i ≤ N) × (48 + 8 * i ≤ length bytes.now) × (offset_of bytes.now i + length_of bytes.now i ≤ length bytes.now) }
+    ensures { Written out.old.items out.new.items (slot_line bytes.now i) (69 + length_of bytes.now i) }
 {
     let offset = word_at(bytes, 40 + 8 * i);
     let size = word_at(bytes, 40 + 8 * i + 4);
-    let a = print::put_word(out, at, b"slot ");
-    let b = print::put_number(out, a, i as u64);
+    print::put_word(out, b"slot ");
+    print::put_number(out, i as u64);
     if is_absent(offset, size) {
-        return print::put_word(out, b, b" absent\n");
+        print::put_word(out, b" absent\n");
+        return;
     }
-    put_part(out, b, bytes, offset, size)
+    put_part(out, bytes, offset, size);
 }
 
 // The lines of a record.
-pub fn put_record(out: &mut [u8], at: usize, bytes: &[u8]) -> usize
-    requires { (at + line_room (length bytes.now) ≤ length out.old) × Sound bytes.now }
-    ensures { Written out.old out.new at (record_lines bytes.now) (line_room (length bytes.now)) result }
+pub fn put_record<const N: usize>(out: &mut ArrayVec<u8, N>, bytes: &[u8])
+    requires { (array_vec_len out.old + line_room (length bytes.now) ≤ N) × Sound bytes.now }
+    ensures { Written out.old.items out.new.items (record_lines bytes.now) (line_room (length bytes.now)) }
 {
-    let count = word_at(bytes, 32);
-    let mut n = put_head(out, at, bytes);
-    for i in 0..count {
-        n = put_slot(out, n, bytes, i);
+    put_head(out, bytes);
+    for i in 0..word_at(bytes, 32) {
+        put_slot(out, bytes, i);
     }
-    n
 }

@@ -14,3 +14,4 @@ pub mod RectLaws
 pub mod TransposeLaws
 pub mod Filling
 pub mod Copying
+pub mod OptionLaws

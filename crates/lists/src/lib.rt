@@ -1,4 +1,5 @@
 // Slices filled and written. The laws of lists that the other crates use stand in specs/ and proofs/.
+// A slice with a place or a count: it is lent by the caller, in C too, as `record` says.
 #![tactic(auto)]
 
 ghost use Rattle.std.specs.Prelude.{◌≡◌, ◌+◌, ◌≤◌, length, replicate};

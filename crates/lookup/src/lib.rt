@@ -1,18 +1,19 @@
 // The regions as a lent run of rects, searched for the region of each frame of GRID.
+// The slice of the rects is lent by the caller, in C too: its numbers and its size are fixed.
 #![tactic(auto)]
 
 ghost use Rattle.std.specs.Prelude.{◌≡◌, ◌++◌, ◌+◌, ◌*◌, ◌<◌, ◌≤◌, ◌^◌, length, take, drop};
-ghost use Rattle.lists.specs.Picture.{canvas};
+ghost use Rattle.model.specs.Layers.{picture_of};
 ghost use Rattle.model.specs.Limits.{region_count};
 ghost use Rattle.rects.specs.Rects.{rects_of};
-ghost use Rattle.regions.specs.Slices.{Layer};
 ghost use Rattle.walks.specs.Frame.{frame_of};
 ghost use Rattle.walks.specs.Kinds.{grid};
 ghost use Rattle.lookup.specs.Lookup.{first_of, Numbered};
 ghost use Rattle.lookup.specs.Numbers.{Above, number_in, Seen, Stored, Without, WithoutAny};
 
-use model::Rect;
+use model::layer::Layer;
 use model::limits::REGIONS;
+use model::{Point, Rect};
 
 // The first `count` rects, in row order.
 fn fill(rects: &mut [Rect], nums: &[u32], count: usize)
@@ -62,13 +63,13 @@ struct Sought {
 }
 
 // The first corner from place i on, with its frame.
-fn seek(layer: &[u32], w: usize, h: usize, i: usize) -> Sought
-    requires { Layer w h (length layer.now) × (i < h * w) }
-    ensures { Seen (frame_of grid (canvas w h layer.now) w h) layer.now w (h * w) i result }
+fn seek(layer: Layer, i: usize) -> Sought
+    requires { i < layer.height * layer.width }
+    ensures { Seen (frame_of grid (picture_of layer.entry) layer.entry.width layer.entry.height) layer.entry.codes.now layer.entry.width (layer.entry.height * layer.entry.width) i result }
 {
-    let size = h * w;
-    let at = regions::next_corner(layer, size, i);
-    let row = at / w;
+    let size = layer.height * layer.width;
+    let at = regions::next_corner(layer.codes, size, i);
+    let row = at / layer.width;
     let under = row + 1;
     if size <= at {
         return Sought {
@@ -77,7 +78,11 @@ fn seek(layer: &[u32], w: usize, h: usize, i: usize) -> Sought
             frame: None,
         };
     }
-    let frame = frames::recognize_rectangle(layer, w, h, at % w, row).ok();
+    let corner = Point {
+        x: at % layer.width,
+        y: row,
+    };
+    let frame = frames::recognize_rectangle(layer, corner).ok();
     Sought { at, under, frame }
 }
 
@@ -105,16 +110,9 @@ fn put_number(found: &mut [u32], at: usize, k: usize, size: usize) -> usize
 }
 
 // At each corner of GRID the number of the region of the frame that starts there, or `count`.
-pub fn number_frames(
-    layer: &[u32],
-    w: usize,
-    h: usize,
-    nums: &[u32],
-    count: usize,
-    found: &mut [u32],
-)
-    requires { Layer w h (length layer.now) × (count ≤ region_count) × (count * 4 ≤ length nums.now) × (h * w ≤ length found.old) }
-    ensures { Numbered (frame_of grid (canvas w h layer.now) w h) (rects_of nums.now count) (canvas w h layer.now) w (h * w) found.new }
+pub fn number_frames(layer: Layer, nums: &[u32], count: usize, found: &mut [u32])
+    requires { (count ≤ region_count) × (count * 4 ≤ length nums.now) × (layer.height * layer.width ≤ length found.old) }
+    ensures { Numbered (frame_of grid (picture_of layer.entry) layer.entry.width layer.entry.height) (rects_of nums.now count) (picture_of layer.entry) layer.entry.width (layer.entry.height * layer.entry.width) found.new }
 {
     let mut rects = [Rect {
         left: 0,
@@ -123,12 +121,12 @@ pub fn number_frames(
         bottom: 0,
     }; REGIONS];
     fill(&mut rects, nums, count);
-    let size = h * w;
+    let size = layer.height * layer.width;
     let mut i: usize = 0;
     let mut from: usize = 0;
     // No `for`: each turn goes on behind the next corner.
     while i < size {
-        let s = seek(layer, w, h, i);
+        let s = seek(layer, i);
         from = live(nums, count, from, s.under);
         let k = number_in(&rects, from, count, s.frame);
         i = put_number(found, s.at, k, size);

@@ -4,3 +4,4 @@ pub mod Geometry
 pub mod Policies
 pub mod Cells
 pub mod Refusals
+pub mod Layers

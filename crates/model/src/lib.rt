@@ -3,11 +3,12 @@
 
 ghost use Rattle.std.specs.Prelude.{◌≡◌, ◌+◌, ◌-◌, ◌<◌, ◌^◌};
 ghost use Rattle.model.specs.Geometry.{contains_of};
-ghost use Rattle.model.specs.Policies.{policy_number};
 ghost use Rattle.model.specs.Cells.{kind_of, region_of, same_kind, cell_number, turned_cell, Small};
 
 pub mod box_drawing;
+pub mod layer;
 pub mod limits;
+pub mod numbering;
 
 // A place on a canvas: column x of row y.
 #[derive(Clone, Copy, Debug, PartialEq, Eq)]
@@ -59,19 +60,13 @@ impl Rect {
     pub fn width(self) -> usize
         ensures { result ≡ self.right - self.left }
     {
-        if self.right < self.left {
-            return 0;
-        }
-        self.right - self.left
+        self.right.saturating_sub(self.left)
     }
 
     pub fn height(self) -> usize
         ensures { result ≡ self.bottom - self.top }
     {
-        if self.bottom < self.top {
-            return 0;
-        }
-        self.bottom - self.top
+        self.bottom.saturating_sub(self.top)
     }
 
     // The same rectangle from a lower row on.
@@ -201,20 +196,12 @@ impl From<HitPolicy> for u32 {
             HitPolicy::First => 3,
             HitPolicy::RuleOrder => 4,
             HitPolicy::OutputOrder => 5,
-            HitPolicy::Collect(a) => aggregator_number(a),
+            HitPolicy::Collect(BuiltinAggregator::List) => 6,
+            HitPolicy::Collect(BuiltinAggregator::Sum) => 7,
+            HitPolicy::Collect(BuiltinAggregator::Count) => 8,
+            HitPolicy::Collect(BuiltinAggregator::Min) => 9,
+            HitPolicy::Collect(BuiltinAggregator::Max) => 10,
         }
-    }
-}
-
-fn aggregator_number(a: BuiltinAggregator) -> u32
-    ensures { result ≡ policy_number (HitPolicy.Collect a) }
-{
-    match a {
-        BuiltinAggregator::List => 6,
-        BuiltinAggregator::Sum => 7,
-        BuiltinAggregator::Count => 8,
-        BuiltinAggregator::Min => 9,
-        BuiltinAggregator::Max => 10,
     }
 }
 
@@ -233,6 +220,7 @@ impl From<Orientation> for u32 {
     }
 }
 
+// Numbers, since the slice of a plane is the caller's, in C too.
 impl Cell {
     // The number of a cell's kind.
     fn kind(self) -> u32

@@ -1,10 +1,7 @@
 // An outcome and a value split as numbers, for programs in C or Rust.
 #![tactic(auto)]
 
-ghost use Rattle.std.specs.Prelude.{◌≡◌};
-ghost use Rattle.numbers.specs.Answers.{refusal_answer, answer_of, split_answer};
-
-use model::Refusal;
+use model::{Numbers, Refusal};
 use utils::Rewritten;
 
 // n = 0 and a record of `a` bytes, or a refusal's N, A and B.
@@ -16,27 +13,28 @@ pub struct Answer {
     pub b: u64,
 }
 
-fn refusal_answer(r: Refusal) -> Answer
-    ensures { result ≡ refusal_answer r }
-{
-    let x = refusals::refusal_numbers(r);
-    Answer {
-        n: x.n,
-        a: x.a,
-        b: x.b,
-    }
-}
+impl From<Result<usize, Refusal>> for Answer {
+    ghost use Rattle.std.specs.Prelude.{◌≡◌};
+    ghost use Rattle.numbers.specs.Answers.{answer_of};
 
-pub fn outcome_answer(o: Result<usize, Refusal>) -> Answer
-    ensures { result ≡ answer_of o }
-{
-    match o {
-        Ok(total) => Answer {
-            n: 0,
-            a: total as u64,
-            b: 0,
-        },
-        Err(r) => refusal_answer(r),
+    ghost from_gives = { λ o x. x ≡ answer_of o };
+
+    fn from(outcome: Result<usize, Refusal>) -> Answer {
+        match outcome {
+            Ok(total) => Answer {
+                n: 0,
+                a: total as u64,
+                b: 0,
+            },
+            Err(r) => {
+                let x = Numbers::from(r);
+                Answer {
+                    n: x.n,
+                    a: x.a,
+                    b: x.b,
+                }
+            }
+        }
     }
 }
 
@@ -54,38 +52,43 @@ pub struct SplitAnswer {
     pub to: usize,
 }
 
-pub fn split_numbers(s: Result<Option<Rewritten>, Refusal>) -> SplitAnswer
-    ensures { result ≡ split_answer s }
-{
-    match s {
-        Ok(None) => SplitAnswer {
-            n: 0,
-            a: 0,
-            b: 0,
-            rewritten: 0,
-            length: 0,
-            from: 0,
-            to: 0,
-        },
-        Ok(Some(r)) => SplitAnswer {
-            n: 0,
-            a: 0,
-            b: 0,
-            rewritten: 1,
-            length: r.bytes,
-            from: r.from,
-            to: r.to,
-        },
-        Err(r) => {
-            let x = refusals::refusal_numbers(r);
-            SplitAnswer {
-                n: x.n,
-                a: x.a,
-                b: x.b,
+impl From<Result<Option<Rewritten>, Refusal>> for SplitAnswer {
+    ghost use Rattle.std.specs.Prelude.{◌≡◌};
+    ghost use Rattle.numbers.specs.Answers.{split_answer};
+
+    ghost from_gives = { λ s x. x ≡ split_answer s };
+
+    fn from(split: Result<Option<Rewritten>, Refusal>) -> SplitAnswer {
+        match split {
+            Ok(None) => SplitAnswer {
+                n: 0,
+                a: 0,
+                b: 0,
                 rewritten: 0,
                 length: 0,
                 from: 0,
                 to: 0,
+            },
+            Ok(Some(r)) => SplitAnswer {
+                n: 0,
+                a: 0,
+                b: 0,
+                rewritten: 1,
+                length: r.bytes,
+                from: r.from,
+                to: r.to,
+            },
+            Err(r) => {
+                let x = Numbers::from(r);
+                SplitAnswer {
+                    n: x.n,
+                    a: x.a,
+                    b: x.b,
+                    rewritten: 0,
+                    length: 0,
+                    from: 0,
+                    to: 0,
+                }
             }
         }
     }

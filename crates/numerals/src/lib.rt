@@ -1,4 +1,5 @@
 // The rule number that a text is.
+// Places are indices into the whole text, as in `utf8`.
 #![tactic(auto)]
 
 ghost use Rattle.std.specs.Prelude.{◌≡◌, drop};

@@ -1,12 +1,11 @@
 -- An outcome's lines are the lines of what is stated.
 use Rattle.std.specs.Prelude.{Ok, Err, ℕ}
-use mathlib.Core.List.{List, [], ◌∷◌, map}
+use mathlib.Core.List.{List, map}
 use mathlib.Core.Path.{◌≡◌, refl, ap, ◌∙◌}
-use Prim.Native.Nat.{ℕ, suc, ◌^◌, ◌≤◌, ◌<◌}
+use Prim.Native.Nat.{ℕ, ◌^◌, ◌≤◌, ◌<◌}
 use native.Mathlib.Omega.{arith}
 use lib.Dec.{ltb}
 use lib.ListN.{length, drop}
-use borrow.Author.Tests.{le-ltb}
 use Rattle.lists.specs.Put.{put}
 use Rattle.lists.proofs.PutLaws.{put_front}
 use Rattle.lists.proofs.Tests.{by_flag}

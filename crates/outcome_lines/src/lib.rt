@@ -2,10 +2,12 @@
 #![tactic(auto)]
 
 ghost use Rattle.std.specs.Prelude.{◌≡◌, ◌+◌, ◌≤◌, length};
+ghost use Rattle.arrayvec.specs.ArrayVec.{array_vec_len};
 ghost use Rattle.print.specs.Decimal.{Written};
 ghost use Rattle.outcome_lines.specs.Outcomes.{outcome_lines, OutcomeSound};
 ghost use Rattle.outcome_lines.specs.PolicyLines.{record_bytes, report_bytes};
 
+use arrayvec::ArrayVec;
 use model::Refusal;
 
 // Room for the lines of a record, and for those of a refusal.
@@ -14,12 +16,16 @@ pub const REPORT_BYTES: usize = 348685;
 pub const RECORD_BYTES: usize = 61440;
 
 // The lines of the record slice, or of the refusal.
-pub fn put_outcome(out: &mut [u8], at: usize, o: Result<usize, Refusal>, bytes: &[u8]) -> usize
-    requires { (at + report_bytes ≤ length out.old) × (length bytes.now ≡ record_bytes) × OutcomeSound o bytes.now }
-    ensures { Written out.old out.new at (outcome_lines o bytes.now) report_bytes result }
+pub fn put_outcome<const N: usize>(
+    out: &mut ArrayVec<u8, N>,
+    o: Result<usize, Refusal>,
+    bytes: &[u8],
+)
+    requires { (array_vec_len out.old + report_bytes ≤ N) × (length bytes.now ≡ record_bytes) × OutcomeSound o bytes.now }
+    ensures { Written out.old.items out.new.items (outcome_lines o bytes.now) report_bytes }
 {
     match o {
-        Ok(_) => listing::put_record(out, at, bytes),
-        Err(r) => print::put_refusal(out, at, r),
+        Ok(_) => listing::put_record(out, bytes),
+        Err(r) => print::put_refusal(out, r),
     }
 }

@@ -1,17 +1,19 @@
 // The outline of a table on the TEXT layer: whether it has a name, its crossings and its body.
 #![tactic(auto)]
 
-ghost use Rattle.std.specs.Prelude.{◌≡◌, ◌*◌, ◌≤◌, ◌<◌, length};
-ghost use Rattle.lists.specs.Picture.{canvas};
+ghost use Rattle.std.specs.Prelude.{◌≡◌, ◌*◌, ◌<◌};
+ghost use Rattle.model.specs.Layers.{picture_of};
 ghost use Rattle.walks.specs.Frame.{Place};
 ghost use Rattle.outline.specs.Outline.{search_of, named_of, crossing_by, table_of, outline_of};
 ghost use Rattle.outline.specs.Answers.{WalkFits};
 
 use model::box_drawing::*;
-use model::{Rect, Refusal};
+use model::layer::Layer;
+use model::{Point, Rect, Refusal};
 
 // Whether a name stands above the table; the main crossing's column and row; the column of the annotation crossing
 // on its right and the row of that below it; the body.
+// `named` is a fact of the drawing: no value hangs on it.
 #[derive(Clone, Copy)]
 pub struct Outline {
     pub named: bool,
@@ -23,13 +25,13 @@ pub struct Outline {
 }
 
 // The first place at which a character stands.
-fn search(layer: &[u32], w: usize, h: usize, code: u32) -> Result<usize, Refusal>
-    requires { h * w ≤ length layer.now }
-    ensures { result ≡ search_of code (canvas w h layer.now) w h }
+fn search(layer: Layer, code: u32) -> Result<usize, Refusal>
+    ensures { result ≡ search_of code (picture_of layer.entry) layer.entry.width layer.entry.height }
 {
-    let size = h * w;
+    let codes = layer.codes;
+    let size = layer.height * layer.width;
     for i in 0..size {
-        if layer[i] == code {
+        if codes[i] == code {
             return Ok(i);
         }
     }
@@ -37,14 +39,14 @@ fn search(layer: &[u32], w: usize, h: usize, code: u32) -> Result<usize, Refusal
 }
 
 // Whether a name stands above a table whose first ╥ lies in this row.
-fn name_above(layer: &[u32], w: usize, h: usize, row: usize) -> Result<bool, Refusal>
-    requires { Place w h 0 0 (length layer.now) }
-    ensures { result ≡ named_of (canvas w h layer.now) w h row }
+fn name_above(layer: Layer, row: usize) -> Result<bool, Refusal>
+    requires { Place layer.width layer.height 0 0 }
+    ensures { result ≡ named_of (picture_of layer.entry) layer.entry.width layer.entry.height row }
 {
     if row == 0 {
         return Ok(false);
     }
-    frames::recognize_name(layer, w, h)?;
+    frames::recognize_name(layer)?;
     Ok(true)
 }
 
@@ -59,40 +61,36 @@ fn crossed(from: usize, walked: Result<usize, Refusal>) -> Option<usize>
     }
 }
 
+// `has_name` is a fact that the answer holds.
 // The table whose main crossing stands at a place.
-fn recognize_table(
-    layer: &[u32],
-    w: usize,
-    h: usize,
-    has_name: bool,
-    cross: usize,
-) -> Result<Outline, Refusal>
-    requires { (cross < h * w) × (h * w ≤ length layer.now) }
-    ensures { result ≡ table_of (canvas w h layer.now) w h has_name cross }
+fn recognize_table(layer: Layer, has_name: bool, cross: usize) -> Result<Outline, Refusal>
+    requires { cross < layer.height * layer.width }
+    ensures { result ≡ table_of (picture_of layer.entry) layer.entry.width layer.entry.height has_name cross }
 {
-    let x = cross % w;
-    let y = cross / w;
-    let body = frames::recognize_body(layer, w, h, x, y)?;
-    let right = crossed(x, frames::crossing_right(layer, w, h, x, y));
-    let below = crossed(y, frames::crossing_below(layer, w, h, x, y));
+    let main = Point {
+        x: cross % layer.width,
+        y: cross / layer.width,
+    };
+    let body = frames::recognize_body(layer, main)?;
+    let right = crossed(main.x, frames::crossing_right(layer, main));
+    let below = crossed(main.y, frames::crossing_below(layer, main));
     Ok(Outline {
         named: has_name,
-        x,
-        y,
+        x: main.x,
+        y: main.y,
         right,
         below,
         body,
     })
 }
 
-// The outline of the table on a layer of w columns and h rows.
-pub fn recognize_outline(layer: &[u32], w: usize, h: usize) -> Result<Outline, Refusal>
-    requires { h * w ≤ length layer.now }
-    ensures { result ≡ outline_of (canvas w h layer.now) w h }
+// The outline of the table on a layer.
+pub fn recognize_outline(layer: Layer) -> Result<Outline, Refusal>
+    ensures { result ≡ outline_of (picture_of layer.entry) layer.entry.width layer.entry.height }
 {
-    search(layer, w, h, LIGHT_DOWN_AND_RIGHT)?;
-    let edge = search(layer, w, h, DOWN_DOUBLE_AND_HORIZONTAL_SINGLE)?;
-    let has_name = name_above(layer, w, h, edge / w)?;
-    let cross = search(layer, w, h, DOUBLE_VERTICAL_AND_HORIZONTAL)?;
-    recognize_table(layer, w, h, has_name, cross)
+    search(layer, LIGHT_DOWN_AND_RIGHT)?;
+    let edge = search(layer, DOWN_DOUBLE_AND_HORIZONTAL_SINGLE)?;
+    let has_name = name_above(layer, edge / layer.width)?;
+    let cross = search(layer, DOUBLE_VERTICAL_AND_HORIZONTAL)?;
+    recognize_table(layer, has_name, cross)
 }

@@ -2,54 +2,43 @@
 #![tactic(auto)]
 
 ghost use Rattle.std.specs.Prelude.{◌≡◌, ◌<◌};
-ghost use Rattle.cells.specs.Plane.{row_in, plane_in, PlaneFits};
-ghost use Rattle.cells.specs.Held.{Held};
-ghost use Rattle.cells.specs.Spans.{text_in};
-ghost use Rattle.rule_numbers.specs.Told.{PartIn};
+ghost use Rattle.cells.specs.Held.{Numbered};
+ghost use Rattle.cells.specs.Plane.{row_in};
+ghost use Rattle.cells.specs.Slices.{plane_of, text_of};
 ghost use Rattle.placement.specs.Placement.{policy_in, corner_policy, bottom_left, placement_of};
 ghost use Rattle.placement.specs.Orientation.{holds_in, holds, as_rows, as_columns, as_cross_tab, oriented_by, oriented_of};
 
+use cells::plane::Plane;
+use cells::text_plane::TextPlane;
+use cells::texts::Texts;
 use model::{Cell, HitPolicy, HitPolicyPlacement, Orientation, Refusal, RuleNumbersPlacement};
 
 // The hit policy that the text of a cell's region is.
-fn policy_in(c: Cell, bytes: &[u8], spans: &[u32], count: usize) -> Option<HitPolicy>
-    requires { PartIn c bytes.now spans.now count }
-    ensures { result ≡ policy_in (text_in bytes.now spans.now count) c }
+fn policy_in(texts: Texts, c: Cell) -> Option<HitPolicy>
+    requires { Numbered texts.count c }
+    ensures { result ≡ policy_in (text_of texts.entry) c }
 {
-    let k = c.region()?;
-    hit_policies::hit_policy(cells::text_at(bytes, spans, k))
+    hit_policies::hit_policy(texts.of(c)?)
 }
 
 // The hit policy in the first cell of a row.
-fn corner_policy(
-    plane: &[u32],
-    n: usize,
-    bytes: &[u8],
-    spans: &[u32],
-    count: usize,
-    row: usize,
-) -> Result<Option<HitPolicy>, Refusal>
-    requires { Held plane.now n bytes.now spans.now count × (row < n) }
-    ensures { result ≡ corner_policy (text_in bytes.now spans.now count) (Some (row_in plane.now row)) }
+fn corner_policy(sheet: TextPlane, row: usize) -> Result<Option<HitPolicy>, Refusal>
+    requires { row < sheet.plane.rows }
+    ensures { result ≡ corner_policy (text_of sheet.entry.texts) (Some (row_in sheet.entry.plane.cells.now row)) }
 {
-    match rule_numbers::slot_at(plane, false, row, 0) {
-        Some(c) => Ok(policy_in(c, bytes, spans, count)),
+    match rule_numbers::slot_at(sheet.plane, false, row, 0) {
+        Some(c) => Ok(policy_in(sheet.texts, c)),
         None => Err(Refusal::PlaneMalformed),
     }
 }
 
 // The hit policy in the last row.
-fn bottom_left(
-    plane: &[u32],
-    n: usize,
-    bytes: &[u8],
-    spans: &[u32],
-    count: usize,
-) -> Result<HitPolicyPlacement, Refusal>
-    requires { Held plane.now n bytes.now spans.now count × (0 < n) }
-    ensures { result ≡ bottom_left (text_in bytes.now spans.now count) (plane_in plane.now n) }
+fn bottom_left(sheet: TextPlane) -> Result<HitPolicyPlacement, Refusal>
+    requires { 0 < sheet.plane.rows }
+    ensures { result ≡ bottom_left (text_of sheet.entry.texts) (plane_of sheet.entry.plane) }
 {
-    let p = corner_policy(plane, n, bytes, spans, count, n - 1)?;
+    let plane = sheet.plane;
+    let p = corner_policy(sheet, plane.rows - 1)?;
     match p {
         Some(h) => Ok(HitPolicyPlacement::BottomLeft(h)),
         None => Ok(HitPolicyPlacement::NotPresent),
@@ -57,47 +46,39 @@ fn bottom_left(
 }
 
 // Where the hit policy stands.
-fn hit_policy_placement(
-    plane: &[u32],
-    n: usize,
-    bytes: &[u8],
-    spans: &[u32],
-    count: usize,
-) -> Result<HitPolicyPlacement, Refusal>
-    requires { Held plane.now n bytes.now spans.now count }
-    ensures { result ≡ placement_of (text_in bytes.now spans.now count) (plane_in plane.now n) }
+fn hit_policy_placement(sheet: TextPlane) -> Result<HitPolicyPlacement, Refusal>
+    ensures { result ≡ placement_of (text_of sheet.entry.texts) (plane_of sheet.entry.plane) }
 {
-    if n == 0 {
+    let plane = sheet.plane;
+    if plane.rows == 0 {
         return Err(Refusal::PlaneEmpty);
     }
-    let p = corner_policy(plane, n, bytes, spans, count, 0)?;
+    let p = corner_policy(sheet, 0)?;
     match p {
         Some(h) => Ok(HitPolicyPlacement::TopLeft(h)),
-        None => bottom_left(plane, n, bytes, spans, count),
+        None => bottom_left(sheet),
     }
 }
 
 // Whether a cell of a kind stands in a row.
-fn holds_in(plane: &[u32], n: usize, row: usize, kind: Cell) -> bool
-    requires { PlaneFits plane.now n × (row < n) }
-    ensures { result ≡ holds_in kind (row_in plane.now row) }
+fn holds_in(plane: Plane, row: usize, kind: Cell) -> bool
+    requires { row < plane.rows }
+    ensures { result ≡ holds_in kind (row_in plane.entry.cells.now row) }
 {
-    let width = plane[row] as usize;
-    for i in 0..width {
-        if kind.is_same_kind(cells::cell_at(plane, row, i)) {
+    for i in 0..plane.width(row) {
+        if kind.is_same_kind(plane.cell(row, i)) {
             return true;
         }
     }
     false
 }
 
-// Whether one stands in a plane of n rows.
-fn holds(plane: &[u32], n: usize, kind: Cell) -> bool
-    requires { PlaneFits plane.now n }
-    ensures { result ≡ holds kind (plane_in plane.now n) }
+// Whether one stands in a plane.
+fn holds(plane: Plane, kind: Cell) -> bool
+    ensures { result ≡ holds kind (plane_of plane.entry) }
 {
-    for row in 0..n {
-        if holds_in(plane, n, row, kind) {
+    for row in 0..plane.rows {
+        if holds_in(plane, row, kind) {
             return true;
         }
     }
@@ -150,6 +131,7 @@ fn as_cross_tab(m: RuleNumbersPlacement) -> Result<Oriented, Refusal>
     }
 }
 
+// A table of facts, and no switch.
 // By the crossings that there are, the policy's place and the numbers'.
 fn oriented_by(
     horizontal: bool,
@@ -180,20 +162,14 @@ fn oriented_by(
     }
 }
 
-// The orientation of a plane of n rows, with its policy and its rule count.
-pub fn orient(
-    plane: &[u32],
-    n: usize,
-    bytes: &[u8],
-    spans: &[u32],
-    count: usize,
-) -> Result<Oriented, Refusal>
-    requires { Held plane.now n bytes.now spans.now count }
-    ensures { result ≡ oriented_of (text_in bytes.now spans.now count) (plane_in plane.now n) }
+// The orientation of a plane, with its policy and its rule count.
+pub fn orient(sheet: TextPlane) -> Result<Oriented, Refusal>
+    ensures { result ≡ oriented_of (text_of sheet.entry.texts) (plane_of sheet.entry.plane) }
 {
-    let p = hit_policy_placement(plane, n, bytes, spans, count)?;
-    let m = rule_numbers::rule_numbers(plane, n, bytes, spans, count)?;
-    let horizontal = holds(plane, n, Cell::HorizontalDoubleCrossing);
-    let vertical = holds(plane, n, Cell::VerticalDoubleCrossing);
+    let plane = sheet.plane;
+    let p = hit_policy_placement(sheet)?;
+    let m = rule_numbers::rule_numbers(sheet)?;
+    let horizontal = holds(plane, Cell::HorizontalDoubleCrossing);
+    let vertical = holds(plane, Cell::VerticalDoubleCrossing);
     oriented_by(horizontal, vertical, p, m)
 }

@@ -3,14 +3,15 @@
 
 ghost use Rattle.std.specs.Prelude.{◌≡◌, ◌≤◌, length};
 ghost use Rattle.model.specs.Limits.{plane_size};
-ghost use Rattle.cells.specs.Held.{Held};
-ghost use Rattle.cells.specs.Plane.{plane_in};
-ghost use Rattle.cells.specs.Spans.{text_in};
+ghost use Rattle.cells.specs.Slices.{plane_of, text_of};
 ghost use Rattle.lent.specs.Lent.{lists_of};
 ghost use Rattle.plane.specs.LentSheet.{lent_sheet, WorkRoom};
 ghost use Rattle.plane.specs.Sheet.{stated_sheet};
 ghost use Rattle.plane.specs.Stated.{stated_in, StatedHeld};
 
+use cells::plane::Plane;
+use cells::text_plane::TextPlane;
+use cells::texts::Texts;
 use lent::Lent;
 use model::{HitPolicy, Orientation, Refusal};
 
@@ -23,26 +24,17 @@ pub struct Stated {
     pub rows: usize,
 }
 
-// The upright sheet of a plane of n rows, into `out`.
-pub fn upright_sheet(
-    plane: &[u32],
-    n: usize,
-    bytes: &[u8],
-    spans: &[u32],
-    count: usize,
-    out: &mut [u32],
-) -> Result<Stated, Refusal>
-    requires { Held plane.now n bytes.now spans.now count × (plane_size ≤ length out.old) }
-    ensures sheet { stated_in result out.new ≡ stated_sheet (text_in bytes.now spans.now count) (plane_in plane.now n) }
-    ensures held { StatedHeld result out.new bytes.now spans.now count }
+// The upright sheet of a plane, into `out`.
+pub fn upright_sheet(sheet: TextPlane, out: &mut [u32]) -> Result<Stated, Refusal>
+    requires { plane_size ≤ length out.old }
+    ensures sheet { stated_in result out.new ≡ stated_sheet (text_of sheet.entry.texts) (plane_of sheet.entry.plane) }
+    ensures held { StatedHeld result out.new sheet.entry.texts.bytes.now sheet.entry.texts.spans.now sheet.entry.texts.count }
 {
-    let o = placement::orient(plane, n, bytes, spans, count)?;
-    let orientation = o.orientation;
-    let policy = o.policy;
-    let rows = turning::upright(orientation, plane, n, out)?;
+    let o = placement::orient(sheet)?;
+    let rows = turning::upright(o.orientation, sheet.plane, out)?;
     Ok(Stated {
-        orientation,
-        policy,
+        orientation: o.orientation,
+        policy: o.policy,
         rules: o.rules,
         rows,
     })
@@ -59,6 +51,14 @@ pub fn lent_sheet(
     ensures sheet { stated_in result out.new ≡ lent_sheet (lists_of l.entry) }
     ensures held { StatedHeld result out.new l.entry.bytes.now spans.new (length l.entry.offsets.now) }
 {
-    let n = lent::load(l, plane, spans)?;
-    upright_sheet(plane, n, l.bytes, spans, l.offsets.len(), out)
+    let rows = lent::load(l, plane, spans)?;
+    let sheet = TextPlane {
+        plane: Plane { cells: plane, rows },
+        texts: Texts {
+            bytes: l.bytes,
+            spans,
+            count: l.offsets.len(),
+        },
+    };
+    upright_sheet(sheet, out)
 }

@@ -31,6 +31,7 @@ pub struct RowSofar {
     pub annotation: Option<usize>,
 }
 
+// `t` is a fact of the drawing, that a line stands there; tested here, so that the caller has one path.
 // A double line behind the first i cells of a row, where there is one.
 fn add_line_if(plane: &mut [u32], row: usize, i: usize, t: bool, c: Cell) -> usize
     requires { (row < plane_rows) × (t ≡ true → i < plane_cells) × (plane_size ≤ length plane.old) × Small c }

@@ -1,67 +1,61 @@
-// Planes and the upright sheet as the judge of the Rust prints them, into a slice of bytes.
+// Planes and the upright sheet as the judge of the Rust prints them.
 #![tactic(auto)]
 
-ghost use Rattle.std.specs.Prelude.{◌∷◌, ◌+◌, ◌≤◌, ◌<◌, length};
+ghost use Rattle.std.specs.Prelude.{◌∷◌, ◌+◌, ◌≤◌, ◌<◌};
+ghost use Rattle.arrayvec.specs.ArrayVec.{array_vec_len};
 ghost use Rattle.model.specs.Cells.{cell_number};
-ghost use Rattle.model.specs.Limits.{plane_rows, plane_cells, plane_size};
-ghost use Rattle.cells.specs.Plane.{cell_at, row_in, plane_in, PlaneFits};
+ghost use Rattle.model.specs.Limits.{plane_rows, plane_cells};
+ghost use Rattle.cells.specs.Plane.{cell_at, row_in};
+ghost use Rattle.cells.specs.Slices.{plane_of};
 ghost use Rattle.print.specs.Decimal.{decimal, Written};
 ghost use Rattle.plane_lines.specs.Planes.{cells_line, plane_lines, cells_bytes, plane_bytes, upright_lines, upright_bytes};
 
+use arrayvec::ArrayVec;
+use cells::plane::Plane;
+
 // A blank and the number of cell i of a row.
-fn put_cell(out: &mut [u8], at: usize, plane: &[u32], row: usize, i: usize) -> usize
-    requires { (at + 21 ≤ length out.old) × (row < plane_rows) × (i < plane_cells) × (plane_size ≤ length plane.now) }
-    ensures { Written out.old out.new at (0x20 ∷ decimal (cell_number (cell_at plane.now row i))) 21 result }
+fn put_cell<const N: usize>(out: &mut ArrayVec<u8, N>, plane: Plane, row: usize, i: usize)
+    requires { (array_vec_len out.old + 21 ≤ N) × (row < plane_rows) × (i < plane_cells) }
+    ensures { Written out.old.items out.new.items (0x20 ∷ decimal (cell_number (cell_at plane.entry.cells.now row i))) 21 }
 {
-    let c = cells::cell_at(plane, row, i);
-    print::put_behind(out, at, c.number() as u64)
+    print::put_behind(out, plane.cell(row, i).number() as u64);
 }
 
 // The cells of a row, and a line feed.
-fn put_cells(out: &mut [u8], at: usize, plane: &[u32], row: usize) -> usize
-    requires { (at + cells_bytes ≤ length out.old) × PlaneFits plane.now (row + 1) }
-    ensures { Written out.old out.new at (cells_line (row_in plane.now row)) cells_bytes result }
+fn put_cells<const N: usize>(out: &mut ArrayVec<u8, N>, plane: Plane, row: usize)
+    requires { (array_vec_len out.old + cells_bytes ≤ N) × (row < plane.rows) }
+    ensures { Written out.old.items out.new.items (cells_line (row_in plane.entry.cells.now row)) cells_bytes }
 {
-    let count = plane[row] as usize;
-    let mut n = print::put_number(out, at, count as u64);
+    let count = plane.width(row);
+    print::put_number(out, count as u64);
     for i in 0..count {
-        n = put_cell(out, n, plane, row, i);
+        put_cell(out, plane, row, i);
     }
-    print::put_word(out, n, b"\n")
+    out.push(b'\n');
 }
 
-// A plane of n rows.
-pub fn put_plane(out: &mut [u8], at: usize, plane: &[u32], n: usize) -> usize
-    requires { (at + plane_bytes ≤ length out.old) × PlaneFits plane.now n }
-    ensures { Written out.old out.new at (plane_lines (plane_in plane.now n)) plane_bytes result }
+// A plane.
+pub fn put_plane<const N: usize>(out: &mut ArrayVec<u8, N>, plane: Plane)
+    requires { array_vec_len out.old + plane_bytes ≤ N }
+    ensures { Written out.old.items out.new.items (plane_lines (plane_of plane.entry)) plane_bytes }
 {
-    let mut m = print::put_count(out, at, b"plane ", n);
-    for row in 0..n {
-        m = put_cells(out, m, plane, row);
+    print::put_count(out, b"plane ", plane.rows);
+    for row in 0..plane.rows {
+        put_cells(out, plane, row);
     }
-    m
 }
 
-// The numbers of an upright sheet of n rows, and its plane.
-pub fn put_upright(
-    out: &mut [u8],
-    at: usize,
+// The numbers of an upright sheet, and its plane.
+pub fn put_upright<const N: usize>(
+    out: &mut ArrayVec<u8, N>,
     orientation: u32,
     policy: u32,
     rules: u64,
-    plane: &[u32],
-    n: usize,
-) -> usize
-    requires { (at + upright_bytes ≤ length out.old) × PlaneFits plane.now n }
-    ensures { Written out.old out.new at (upright_lines orientation policy rules (plane_in plane.now n)) upright_bytes result }
+    plane: Plane,
+)
+    requires { array_vec_len out.old + upright_bytes ≤ N }
+    ensures { Written out.old.items out.new.items (upright_lines orientation policy rules (plane_of plane.entry)) upright_bytes }
 {
-    let a = print::put_three(
-        out,
-        at,
-        b"upright ",
-        orientation as u64,
-        policy as u64,
-        rules,
-    );
-    put_plane(out, a, plane, n)
+    print::put_three(out, b"upright ", orientation as u64, policy as u64, rules);
+    put_plane(out, plane);
 }

@@ -1,11 +1,12 @@
 -- What the functions that add to a plane answer, with the slice that holds it.
-use Rattle.std.specs.Prelude.{Bool, List, ℕ, ◌≤◌, Ok, Err, Option}
+use Rattle.std.specs.Prelude.{List, ℕ, ◌≤◌, Ok, Err, Option}
 use Rattle.lists.specs.Choose.{choose}
 use Rattle.model.specs.Limits.{plane_cells}
 use Rattle.model.specs.Refusals.{Reading}
 use Rattle.model.specs.declared.Cell.{Cell}
 use Rattle.cells.specs.Plane.{plane_in, PlaneFits}
-use Rattle.plane_rows.specs.Rows.{Rows, output_line, annotation_line}
+use Rattle.plane_cells.specs.Row.{is_at}
+use Rattle.plane_rows.specs.Rows.{Rows}
 use Rattle.plane_rows.specs.declared.PlaneSofar.{PlaneSofar}
 
 abbrev pub rows_of : PlaneSofar → List ℕ → Rows
@@ -25,6 +26,6 @@ abbrev pub RowsFit : Reading PlaneSofar → List ℕ → Type 0
 RowsFit (Ok s) d = Fits s d
 RowsFit (Err r) d = Unit {0}
 
--- cell i of a line row, of the main crossing or of the annotation crossing below it
-abbrev pub line_cell : Bool → Option ℕ → Option ℕ → ℕ → Cell
-line_cell main output annotation i = choose main (output_line output annotation i) (annotation_line output i)
+-- cell i of a line row: the cell at the double line of the outputs, the one at that of the annotations, or any other
+abbrev pub line_cell : Cell → Cell → Cell → Option ℕ → Option ℕ → ℕ → Cell
+line_cell o a plain output annotation i = choose (is_at output i) o (choose (is_at annotation i) a plain)

@@ -10,6 +10,9 @@ ghost use Rattle.cells.specs.Plane.{cells_in, KeptBefore};
 ghost use Rattle.plane_rows.specs.Rows.{add_line};
 ghost use Rattle.plane_rows.specs.Made.{rows_of, rows_made, Fits, RowsFit, line_cell};
 
+pub mod line;
+
+use line::Line;
 use model::limits::PLANE_ROWS;
 use model::{Cell, Refusal};
 
@@ -22,24 +25,18 @@ pub struct PlaneSofar {
     pub annotation: Option<usize>,
 }
 
-// Cell i of a line row: that of the main crossing, or that of the annotation crossing below it.
-fn line_cell(main: bool, output: Option<usize>, annotation: Option<usize>, i: usize) -> Cell
-    ensures cell { result ≡ line_cell main output annotation i }
+// Cell i of a line row.
+fn line_cell(l: Line, output: Option<usize>, annotation: Option<usize>, i: usize) -> Cell
+    ensures cell { result ≡ line_cell l.output l.annotation l.plain output annotation i }
     ensures small { Small result }
 {
     if plane_cells::is_at(output, i) {
-        if main {
-            return Cell::MainDoubleCrossing;
-        }
-        return Cell::VerticalDoubleCrossing;
-    }
-    if !main {
-        return Cell::HorizontalAnnotationsDoubleLine;
+        return l.output;
     }
     if plane_cells::is_at(annotation, i) {
-        return Cell::HorizontalDoubleCrossing;
+        return l.annotation;
     }
-    Cell::HorizontalOutputDoubleLine
+    l.plain
 }
 
 // The first `width` cells of a line row.
@@ -47,24 +44,24 @@ fn put_line(
     plane: &mut [u32],
     row: usize,
     width: usize,
-    main: bool,
+    l: Line,
     output: Option<usize>,
     annotation: Option<usize>,
 )
     requires { (row < plane_rows) × (width ≤ plane_cells) × (plane_size ≤ length plane.old) }
-    ensures cells { cells_in plane.new row width ≡ build width (line_cell main output annotation) }
+    ensures cells { cells_in plane.new row width ≡ build width (line_cell l.output l.annotation l.plain output annotation) }
     ensures before { KeptBefore plane.old plane.new row }
 {
     for i in 0..width {
-        let c = line_cell(main, output, annotation, i);
+        let c = line_cell(l, output, annotation, i);
         cells::put_cell(plane, row, i, c);
     }
 }
 
 // A line row more.
-fn add_line(plane: &mut [u32], s: PlaneSofar, main: bool) -> Result<PlaneSofar, Refusal>
+fn add_line(plane: &mut [u32], s: PlaneSofar, l: Line) -> Result<PlaneSofar, Refusal>
     requires { Fits s plane.old }
-    ensures made { rows_made result plane.new ≡ add_line (line_cell main s.output s.annotation) (rows_of s plane.old) }
+    ensures made { rows_made result plane.new ≡ add_line (line_cell l.output l.annotation l.plain s.output s.annotation) (rows_of s plane.old) }
     ensures fits { RowsFit result plane.new }
 {
     let row = s.rows;
@@ -74,7 +71,7 @@ fn add_line(plane: &mut [u32], s: PlaneSofar, main: bool) -> Result<PlaneSofar, 
     let width = s.width;
     let output = s.output;
     let annotation = s.annotation;
-    put_line(plane, row, width, main, output, annotation);
+    put_line(plane, row, width, l, output, annotation);
     cells::end_row(plane, row, width);
     Ok(PlaneSofar {
         rows: row + 1,
@@ -84,19 +81,20 @@ fn add_line(plane: &mut [u32], s: PlaneSofar, main: bool) -> Result<PlaneSofar, 
     })
 }
 
+// `t` is a fact of the drawing; tested here, so that the caller has one path.
 // The same where a line stands there; else the rows are those so far.
 pub fn add_line_row(
     plane: &mut [u32],
     s: PlaneSofar,
     t: bool,
-    main: bool,
+    l: Line,
 ) -> Result<PlaneSofar, Refusal>
     requires { Fits s plane.old }
-    ensures made { rows_made result plane.new ≡ choose t (add_line (line_cell main s.output s.annotation) (rows_of s plane.old)) (Ok (rows_of s plane.old)) }
+    ensures made { rows_made result plane.new ≡ choose t (add_line (line_cell l.output l.annotation l.plain s.output s.annotation) (rows_of s plane.old)) (Ok (rows_of s plane.old)) }
     ensures fits { RowsFit result plane.new }
 {
     if t {
-        return add_line(plane, s, main);
+        return add_line(plane, s, l);
     }
     Ok(s)
 }

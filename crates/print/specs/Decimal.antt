@@ -1,8 +1,7 @@
 -- Numbers in decimal, as the judge prints them.
-use Rattle.std.specs.Prelude.{List, [], ◌∷◌, ◌++◌, ◌≡◌, ℕ, zero, suc, ◌+◌, ◌/◌, ◌≤◌, ltb, length}
+use Rattle.std.specs.Prelude.{List, [], ◌∷◌, ◌++◌, ◌≡◌, ℕ, zero, suc, ◌/◌, ◌≤◌, ltb, length}
 use Rattle.io.specs.Digits.{last_digits}
 use Rattle.lists.specs.Choose.{choose}
-use Rattle.lists.specs.Put.{put}
 
 -- how many decimal digits a number has, of which there are at most k + 1
 unfoldable pub width_by : ℕ → ℕ → ℕ
@@ -26,8 +25,7 @@ spaced (c ∷ s) = 0x20 ∷ (decimal c ++ spaced s)
 unfoldable pub listed : List ℕ → List ℕ
 listed s = decimal (length s) ++ spaced s
 
--- the slice d became o, with x from index `at` on; r is the index behind x, and x has at most `most` bytes
-pub record Written (d o : List ℕ) (at : ℕ) (x : List ℕ) (most r : ℕ) : Type 0 where
-  pub same : o ≡ put d at x
-  pub ends : r ≡ at + length x
-  pub short : r ≤ at + most
+-- `old` became `new`, with x at its end; x has at most `most` bytes
+pub record Written (old new x : List ℕ) (most : ℕ) : Type 0 where
+  pub same : new ≡ old ++ x
+  pub short : length x ≤ most

@@ -1,103 +1,100 @@
-// The lines that the judge of the Rust prints, into a slice of bytes: numbers, words, texts, counts, refusals.
+// The lines that the judge of the Rust prints, at the end of a vector of bytes: numbers, words, texts, counts, refusals.
 #![tactic(auto)]
 
 ghost use Rattle.std.specs.Prelude.{◌∷◌, ◌+◌, ◌*◌, ◌≤◌, length};
+ghost use Rattle.arrayvec.specs.ArrayVec.{array_vec_len};
 ghost use Rattle.model.specs.Refusals.{numbers};
 ghost use Rattle.print.specs.Decimal.{decimal, listed, Written};
 ghost use Rattle.print.specs.Lines.{values_line, three_line, refused_line, count_line};
 
-use model::Refusal;
+use arrayvec::ArrayVec;
+use model::{Numbers, Refusal};
 
-// A number in decimal, from index `at` on.
-pub fn put_number(out: &mut [u8], at: usize, n: u64) -> usize
-    requires { at + 20 ≤ length out.old }
-    ensures { Written out.old out.new at (decimal n) 20 result }
+// A number in decimal.
+pub fn put_number<const N: usize>(out: &mut ArrayVec<u8, N>, n: u64)
+    requires { array_vec_len out.old + 20 ≤ N }
+    ensures { Written out.old.items out.new.items (decimal n) 20 }
 {
     let mut digits = [0u8; 20];
     let k = io::decimal(n, &mut digits);
-    lists::put_bytes(out, at, &digits[..k]);
-    at + k
+    put_word(out, &digits[..k]);
 }
 
 // A blank and a number.
-pub fn put_behind(out: &mut [u8], at: usize, n: u64) -> usize
-    requires { at + 21 ≤ length out.old }
-    ensures { Written out.old out.new at (0x20 ∷ decimal n) 21 result }
+pub fn put_behind<const N: usize>(out: &mut ArrayVec<u8, N>, n: u64)
+    requires { array_vec_len out.old + 21 ≤ N }
+    ensures { Written out.old.items out.new.items (0x20 ∷ decimal n) 21 }
 {
-    out[at] = 0x20;
-    put_number(out, at + 1, n)
+    out.push(0x20);
+    put_number(out, n);
 }
 
 // A blank and a byte in decimal.
-fn put_byte(out: &mut [u8], at: usize, b: u8) -> usize
-    requires { at + 21 ≤ length out.old }
-    ensures { Written out.old out.new at (0x20 ∷ decimal b) 4 result }
+fn put_byte<const N: usize>(out: &mut ArrayVec<u8, N>, b: u8)
+    requires { array_vec_len out.old + 21 ≤ N }
+    ensures { Written out.old.items out.new.items (0x20 ∷ decimal b) 4 }
 {
-    put_behind(out, at, b as u64)
+    put_behind(out, b as u64);
 }
 
 // A text as its count of bytes and the bytes.
-fn put_listed(out: &mut [u8], at: usize, text: &[u8]) -> usize
-    requires { at + 50 + 4 * length text.now ≤ length out.old }
-    ensures { Written out.old out.new at (listed text.now) (20 + 4 * length text.now) result }
+fn put_listed<const N: usize>(out: &mut ArrayVec<u8, N>, text: &[u8])
+    requires { array_vec_len out.old + 50 + 4 * length text.now ≤ N }
+    ensures { Written out.old.items out.new.items (listed text.now) (20 + 4 * length text.now) }
 {
-    let mut n = put_number(out, at, text.len() as u64);
+    put_number(out, text.len() as u64);
     for &b in text {
-        n = put_byte(out, n, b);
+        put_byte(out, b);
     }
-    n
 }
 
-// Bytes, and the index behind them.
-pub fn put_word(out: &mut [u8], at: usize, word: &[u8]) -> usize
-    requires { at + length word.now ≤ length out.old }
-    ensures { Written out.old out.new at word.now (length word.now) result }
+// Bytes.
+pub fn put_word<const N: usize>(out: &mut ArrayVec<u8, N>, word: &[u8])
+    requires { array_vec_len out.old + length word.now ≤ N }
+    ensures { Written out.old.items out.new.items word.now (length word.now) }
 {
-    lists::put_bytes(out, at, word);
-    at + word.len()
+    out.try_extend_from_slice(word).unwrap();
 }
 
 // The allowed values and the default.
-pub fn put_values(out: &mut [u8], at: usize, allowed: &[u8], bare: &[u8]) -> usize
-    requires { at + 150 + 4 * length allowed.now + 4 * length bare.now ≤ length out.old }
-    ensures { Written out.old out.new at (values_line allowed.now bare.now) (57 + 4 * length allowed.now + 4 * length bare.now) result }
+pub fn put_values<const N: usize>(out: &mut ArrayVec<u8, N>, allowed: &[u8], bare: &[u8])
+    requires { array_vec_len out.old + 150 + 4 * length allowed.now + 4 * length bare.now ≤ N }
+    ensures { Written out.old.items out.new.items (values_line allowed.now bare.now) (57 + 4 * length allowed.now + 4 * length bare.now) }
 {
-    let a = put_word(out, at, b"values ");
-    let b = put_listed(out, a, allowed);
-    let c = put_word(out, b, b" default ");
-    let d = put_listed(out, c, bare);
-    put_word(out, d, b"\n")
+    put_word(out, b"values ");
+    put_listed(out, allowed);
+    put_word(out, b" default ");
+    put_listed(out, bare);
+    out.push(b'\n');
 }
 
 // Three numbers behind a word.
-pub fn put_three(out: &mut [u8], at: usize, word: &[u8], x: u64, y: u64, z: u64) -> usize
-    requires { at + length word.now + 63 ≤ length out.old }
-    ensures { Written out.old out.new at (three_line word.now x y z) (length word.now + 63) result }
+pub fn put_three<const N: usize>(out: &mut ArrayVec<u8, N>, word: &[u8], x: u64, y: u64, z: u64)
+    requires { array_vec_len out.old + length word.now + 63 ≤ N }
+    ensures { Written out.old.items out.new.items (three_line word.now x y z) (length word.now + 63) }
 {
-    let a = put_word(out, at, word);
-    let b = put_number(out, a, x);
-    let c = put_word(out, b, b" ");
-    let d = put_number(out, c, y);
-    let e = put_word(out, d, b" ");
-    let f = put_number(out, e, z);
-    put_word(out, f, b"\n")
+    put_word(out, word);
+    put_number(out, x);
+    put_behind(out, y);
+    put_behind(out, z);
+    out.push(b'\n');
 }
 
 // A refusal: N, A and B.
-pub fn put_refusal(out: &mut [u8], at: usize, r: Refusal) -> usize
-    requires { at + 100 ≤ length out.old }
-    ensures { Written out.old out.new at (refused_line (numbers r)) 100 result }
+pub fn put_refusal<const N: usize>(out: &mut ArrayVec<u8, N>, r: Refusal)
+    requires { array_vec_len out.old + 100 ≤ N }
+    ensures { Written out.old.items out.new.items (refused_line (numbers r)) 100 }
 {
-    let x = refusals::refusal_numbers(r);
-    put_three(out, at, b"refused ", x.n, x.a, x.b)
+    let x = Numbers::from(r);
+    put_three(out, b"refused ", x.n, x.a, x.b);
 }
 
 // A count behind a word.
-pub fn put_count(out: &mut [u8], at: usize, word: &[u8], n: usize) -> usize
-    requires { at + length word.now + 21 ≤ length out.old }
-    ensures { Written out.old out.new at (count_line word.now n) (length word.now + 21) result }
+pub fn put_count<const N: usize>(out: &mut ArrayVec<u8, N>, word: &[u8], n: usize)
+    requires { array_vec_len out.old + length word.now + 21 ≤ N }
+    ensures { Written out.old.items out.new.items (count_line word.now n) (length word.now + 21) }
 {
-    let a = put_word(out, at, word);
-    let b = put_number(out, a, n as u64);
-    put_word(out, b, b"\n")
+    put_word(out, word);
+    put_number(out, n as u64);
+    out.push(b'\n');
 }

@@ -4,7 +4,6 @@ use Rattle.lists.specs.Answer.{◌>>=◌}
 use Rattle.model.specs.Limits.{plane_rows, plane_size, text_bytes}
 use Rattle.model.specs.Policies.{policy_number, orientation_number}
 use Rattle.model.specs.Refusals.{Reading}
-use Rattle.cells.specs.Held.{Held}
 use Rattle.record.specs.Policy.{Text, Policy}
 use Rattle.record.specs.Record.{Table, packed, slot_count, table_of}
 use Rattle.record.specs.Slots.{offset_at, length_at, slot_limit}
@@ -44,9 +43,8 @@ abbrev pub RecognizedHeld : Reading SlotTable → List ℕ → List ℕ → Type
 RecognizedHeld (Ok t) bytes d = TableHeld t bytes d
 RecognizedHeld (Err r) bytes d = Unit {0}
 
--- the slices that are handed over: a plane with its texts, and room for the upright sheet and the slots
-pub record WorkRoom (d : List ℕ) (n : ℕ) (bytes spans : List ℕ) (count : ℕ) (upright slots : List ℕ) : Type 0 where
-  pub held : Held d n bytes spans count
+-- the slices that a plane is recognized with: its texts, and room for the upright sheet and the slots
+pub record WorkRoom (bytes upright slots : List ℕ) : Type 0 where
   pub few : length bytes ≤ text_bytes
   pub sheet : plane_size ≤ length upright
   pub room : 3 * slot_limit ≤ length slots

@@ -2,15 +2,15 @@
 #![tactic(auto)]
 
 ghost use Rattle.std.specs.Prelude.{◌≡◌, ℕ, ◌*◌, ◌≤◌, ◌<◌, length, get_or};
-ghost use Rattle.cells.specs.Plane.{plane_in};
-ghost use Rattle.cells.specs.Spans.{text_in};
+ghost use Rattle.model.specs.Limits.{text_bytes};
+ghost use Rattle.cells.specs.Slices.{plane_of, text_of};
 ghost use Rattle.record.specs.Policy.{Text};
 ghost use Rattle.record.specs.Slots.{slot_limit};
-ghost use Rattle.slot_runs.specs.Spelt.{Texts};
 ghost use Rattle.recognizer.specs.StatedPolicy.{sheet_policy, stated_policy};
 ghost use Rattle.recognizer.specs.Told.{table_in, table_read, RecognizedHeld, WorkRoom};
 
-use clauses::Shape;
+use cells::plane::Plane;
+use cells::text_plane::TextPlane;
 use model::{HitPolicy, Orientation, Refusal};
 use plane::Stated;
 
@@ -28,52 +28,45 @@ pub struct SlotTable {
 }
 
 // The table of an upright sheet; its texts go into the slots from 1 on.
-fn recognize_sheet(
-    upright: &[u32],
-    s: Stated,
-    bytes: &[u8],
-    spans: &[u32],
-    count: usize,
-    slots: &mut [u32],
-) -> Result<SlotTable, Refusal>
-    requires { Texts upright.now s.rows bytes.now spans.now count × (3 * slot_limit ≤ length slots.old) × (0 < s.rules) }
-    ensures table { (name : Text) → table_in name result bytes.now slots.new ≡ table_read (sheet_policy name (text_in bytes.now spans.now count) (record { orientation = s.orientation; policy = s.policy; rules = s.rules; plane = plane_in upright.now s.rows })) }
-    ensures held { RecognizedHeld result bytes.now slots.new }
+fn recognize_sheet(sheet: TextPlane, s: Stated, slots: &mut [u32]) -> Result<SlotTable, Refusal>
+    requires { (length sheet.texts.bytes.now ≤ text_bytes) × (3 * slot_limit ≤ length slots.old) × (0 < s.rules) }
+    ensures table { (name : Text) → table_in name result sheet.entry.texts.bytes.now slots.new ≡ table_read (sheet_policy name (text_of sheet.entry.texts) (record { orientation = s.orientation; policy = s.policy; rules = s.rules; plane = plane_of sheet.entry.plane })) }
+    ensures held { RecognizedHeld result sheet.entry.texts.bytes.now slots.new }
     ensures name { (j : ℕ) → j < 3 → get_or slots.new j 0 ≡ get_or slots.old j 0 }
 {
-    let f = clauses::checked_shape(upright, s.rows, s.rules)?;
+    let f = clauses::checked_shape(sheet.plane, s.rules)?;
     let rules = s.rules as usize;
-    let e = slots::fill(upright, s.rows, bytes, spans, count, slots, f, rules);
-    let policy = s.policy;
-    let orientation = s.orientation;
-    let notes = f.notes;
+    let e = slots::fill(sheet, slots, f, rules);
     Ok(SlotTable {
-        policy,
-        orientation,
+        policy: s.policy,
+        orientation: s.orientation,
         inputs: f.inputs,
         outputs: f.outputs,
-        annotations: notes.count,
+        annotations: f.notes.count,
         rules,
         slots: e.slot,
         bytes: e.bytes,
     })
 }
 
-// The table of a plane of n rows; the name's slot is left to the caller.
+// The table of a plane; the name's slot is left to the caller.
 pub fn recognize(
-    plane: &[u32],
-    n: usize,
-    bytes: &[u8],
-    spans: &[u32],
-    count: usize,
+    sheet: TextPlane,
     upright: &mut [u32],
     slots: &mut [u32],
 ) -> Result<SlotTable, Refusal>
-    requires { WorkRoom plane.now n bytes.now spans.now count upright.old slots.old }
-    ensures table { (name : Text) → table_in name result bytes.now slots.new ≡ table_read (stated_policy name (text_in bytes.now spans.now count) (plane_in plane.now n)) }
-    ensures held { RecognizedHeld result bytes.now slots.new }
+    requires { WorkRoom sheet.texts.bytes.now upright.old slots.old }
+    ensures table { (name : Text) → table_in name result sheet.entry.texts.bytes.now slots.new ≡ table_read (stated_policy name (text_of sheet.entry.texts) (plane_of sheet.entry.plane)) }
+    ensures held { RecognizedHeld result sheet.entry.texts.bytes.now slots.new }
     ensures name { (j : ℕ) → j < 3 → get_or slots.new j 0 ≡ get_or slots.old j 0 }
 {
-    let s = plane::upright_sheet(plane, n, bytes, spans, count, upright)?;
-    recognize_sheet(upright, s, bytes, spans, count, slots)
+    let s = plane::upright_sheet(sheet, upright)?;
+    let stated = TextPlane {
+        plane: Plane {
+            cells: upright,
+            rows: s.rows,
+        },
+        texts: sheet.texts,
+    };
+    recognize_sheet(stated, s, slots)
 }

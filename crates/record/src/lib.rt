@@ -1,4 +1,5 @@
 // The table record, written to a slice: its header and its slots.
+// The record's slice is lent by the caller, in C too, and what lies behind the record stays: a slice with a place, and no vector.
 #![tactic(auto)]
 
 ghost use Rattle.std.specs.Prelude.{[], ◌∷◌, ◌++◌, ◌≡◌, ◌+◌, ◌*◌, ◌<◌, ◌≤◌, ◌^◌, length};

@@ -1,4 +1,5 @@
 // Rects in a slice of numbers, four each: one is read or stored.
+// The slice of the rects is lent by the caller, in C too: its numbers and its size are fixed.
 #![tactic(auto)]
 
 ghost use Rattle.std.specs.Prelude.{◌≡◌, [], ◌∷◌, ◌++◌, ◌+◌, ◌*◌, ◌≤◌, length};

@@ -25,7 +25,7 @@ use Rattle.walks.specs.Frame.{Kind, Place, rect_of, frame_of}
 use Rattle.walks.proofs.FrameLaws.{accepted}
 use Rattle.regions.specs.Corners.{corner_in, NextCorner}
 use Rattle.rects.specs.Rects.{rect_at, rects_of, Small}
-use Rattle.regions.specs.Slices.{regions_in, Layer}
+use Rattle.regions.specs.Slices.{regions_in, SmallSizes}
 use Rattle.regions.specs.Regions.{Finder, is_corner, corners_of, add_region, regions_by}
 use Rattle.regions.specs.Within.{add_within}
 
@@ -68,12 +68,12 @@ module _ {p : Picture} {w h i n : ℕ} (q : Counting p w h i n) where
       omega (arith, q.same)
 
 -- a place of a layer
-pub place_of : (w h i len : ℕ) → Layer w h len → (l : i < h * w) → Place w h (i % w) (i / w) len
-place_of w h i len L l = record { column = column_in w h i l; row = row_in_lem w h i l; size = L.size }
+pub place_of : (w h i : ℕ) → (l : i < h * w) → Place w h (i % w) (i / w)
+place_of w h i l = record { column = column_in w h i l; row = row_in_lem w h i l }
 
 -- the numbers of a frame fit
-pub frame_small : (K : Kind) (p : Picture) (w h x y len : ℕ) (r : Rect) → Layer w h len → Place w h x y len → frame_of K p w h x y ≡ Ok r → Small r
-frame_small K p w h x y len r L P e =
+pub frame_small : (K : Kind) (p : Picture) (w h x y : ℕ) (r : Rect) → SmallSizes w h → Place w h x y → frame_of K p w h x y ≡ Ok r → Small r
+frame_small K p w h x y r L P e =
     let F = accepted K p w h x y r e in
     let f = F.frame in
     let s : Small (rect_of x y F.bx F.by) = record {

@@ -1,5 +1,4 @@
 -- Laws of lines that are answered.
-pub mod Shifting
 pub mod KindLaws
 pub mod LentLaws
 pub mod Replaying

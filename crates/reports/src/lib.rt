@@ -1,19 +1,22 @@
 // What is printed for a sheet.
 #![tactic(auto)]
 
-ghost use Rattle.std.specs.Prelude.{◌+◌, ◌≤◌, length};
+ghost use Rattle.std.specs.Prelude.{◌+◌, ◌≤◌};
+ghost use Rattle.arrayvec.specs.ArrayVec.{array_vec_len};
 ghost use Rattle.policies.specs.DrawnPolicy.{walked_policy};
 ghost use Rattle.print.specs.Decimal.{Written};
 ghost use Rattle.outcome_lines.specs.PolicyLines.{record_bytes, policy_lines, report_bytes};
 
+use arrayvec::ArrayVec;
 use model::limits::CANVAS_SIZE;
 use outcome_lines::RECORD_BYTES;
 
 // The lines for a sheet.
-pub fn put_sheet(out: &mut [u8], at: usize, s: &[u8]) -> usize
-    requires { at + report_bytes ≤ length out.old }
-    ensures { Written out.old out.new at (policy_lines record_bytes (walked_policy s.now)) report_bytes result }
+pub fn put_sheet<const N: usize>(out: &mut ArrayVec<u8, N>, s: &[u8])
+    requires { array_vec_len out.old + report_bytes ≤ N }
+    ensures { Written out.old.items out.new.items (policy_lines record_bytes (walked_policy s.now)) report_bytes }
 {
+    // Work slices, as a caller in C lends them: nothing is allocated.
     let mut text = [0u32; CANVAS_SIZE];
     let mut thins = [0u32; CANVAS_SIZE];
     let mut bodies = [0u32; CANVAS_SIZE];
@@ -31,5 +34,5 @@ pub fn put_sheet(out: &mut [u8], at: usize, s: &[u8]) -> usize
         &mut bytes,
         &mut record,
     );
-    outcome_lines::put_outcome(out, at, drawn, &record)
+    outcome_lines::put_outcome(out, drawn, &record);
 }

@@ -1,6 +1,6 @@
 -- Laws of the definitions of specs/.
 pub mod LineLaws
-pub mod TextLaws
+pub mod HeldLaws
 mod PlaceLaws
 mod CountLaws
 mod NumbersLaws

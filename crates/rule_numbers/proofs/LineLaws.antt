@@ -1,6 +1,5 @@
 -- Lines of a plane in a slice: what stands at a place of one, and the lines of the plane as lists.
-use Rattle.std.specs.Prelude.{Ok, Err, Option, None, Some}
-use Rattle.std.specs.Option.{ok_or}
+use Rattle.std.specs.Prelude.{None, Some}
 use mathlib.Core.Path.{◌≡◌, refl, ap, ◌∙◌}
 use mathlib.Core.Bool.{Bool, true, false}
 use mathlib.Core.List.{List, [], ◌∷◌, map}
@@ -24,15 +23,6 @@ module _ (d : List ℕ) (down : Bool) (row n k : ℕ) where
   pub line_end : n ≤ k → drop k (line_of d down row n) ≡ []
   unfolding line_of
   line_end h = drop_build_end n (slot_of d down row) k h
-
--- what is there, or a refusal in its place
-pub there : {A E : Type 0} (o : Option A) (e : E) {a : A} → Ok a ≡ ok_or o e → Some a ≡ o
-there (Some b) e p = cc
-there None e p = cc
-
-pub missing : {A E : Type 0} (o : Option A) (e : E) {r : E} → Err r ≡ ok_or o e → (None ≡ o) × (r ≡ e)
-missing (Some b) e p = cc
-missing None e p = (refl, cc)
 
 -- the ends of a built list
 first-build : {A : Type 0} (n : ℕ) (f : ℕ → A) → first (build n f) ≡ choose (ltb 0 n) (Some (f 0)) None

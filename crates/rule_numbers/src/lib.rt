@@ -1,53 +1,55 @@
 // The rule numbers of a plane: down column 0, or along the last row.
 #![tactic(auto)]
 
-ghost use Rattle.std.specs.Prelude.{◌≡◌, ◌≤◌, ◌<◌, length, drop};
-ghost use Rattle.model.specs.Limits.{plane_rows, plane_size};
-ghost use Rattle.cells.specs.Plane.{plane_in};
-ghost use Rattle.cells.specs.Held.{Held};
-ghost use Rattle.cells.specs.Spans.{text_in};
+ghost use Rattle.std.specs.Prelude.{◌≡◌, ◌≤◌, ◌<◌, drop};
+ghost use Rattle.model.specs.Limits.{plane_rows};
+ghost use Rattle.cells.specs.Held.{Numbered};
+ghost use Rattle.cells.specs.Slices.{plane_of, text_of};
 ghost use Rattle.rule_numbers.specs.Numbering.{number_in, place_behind, counted, counted_behind, numbers_right, right_of, rule_numbers_of};
 ghost use Rattle.rule_numbers.specs.Line.{line_of, slot_of};
-ghost use Rattle.rule_numbers.specs.Told.{LineHeld, PartIn, PlaceFits};
+ghost use Rattle.rule_numbers.specs.Told.{LineHeld, PlaceFits};
 
+use cells::plane::Plane;
+use cells::text_plane::TextPlane;
+use cells::texts::Texts;
 use model::{Cell, Refusal, RuleNumbersPlacement};
 
 // The number that the text of a cell's region is.
-fn number_in(c: Cell, bytes: &[u8], spans: &[u32], count: usize) -> Option<u64>
-    requires { PartIn c bytes.now spans.now count }
-    ensures { result ≡ number_in (text_in bytes.now spans.now count) c }
+fn number_in(texts: Texts, c: Cell) -> Option<u64>
+    requires { Numbered texts.count c }
+    ensures { result ≡ number_in (text_of texts.entry) c }
 {
-    let k = c.region()?;
-    numerals::rule_number(cells::text_at(bytes, spans, k))
+    numerals::rule_number(texts.of(c)?)
 }
 
+// `down` and a row are a line of the plane: which cells it has, and not what is done with them.
 // The cell in row k of column 0, or in column k of a row.
-pub fn slot_at(plane: &[u32], down: bool, row: usize, k: usize) -> Option<Cell>
-    requires { (row < plane_rows) × (k < plane_rows) × (plane_size ≤ length plane.now) }
-    ensures { result ≡ slot_of plane.now down row k }
+pub fn slot_at(plane: Plane, down: bool, row: usize, k: usize) -> Option<Cell>
+    requires { (row < plane_rows) × (k < plane_rows) }
+    ensures { result ≡ slot_of plane.entry.cells.now down row k }
 {
     if down {
-        if 0 < plane[k] {
-            return Some(cells::cell_at(plane, k, 0));
+        if 0 < plane.width(k) {
+            return Some(plane.cell(k, 0));
         }
         return None;
     }
-    if k < plane[row] as usize {
-        return Some(cells::cell_at(plane, row, k));
+    if k < plane.width(row) {
+        return Some(plane.cell(row, k));
     }
     None
 }
 
 // The place behind the first cell of a kind in a line of n.
 fn place_behind(
-    plane: &[u32],
+    plane: Plane,
     down: bool,
     row: usize,
     n: usize,
     kind: Cell,
 ) -> Result<usize, Refusal>
-    requires { (row < plane_rows) × (n ≤ plane_rows) × (plane_size ≤ length plane.now) }
-    ensures place { result ≡ place_behind kind 0 (line_of plane.now down row n) }
+    requires { (row < plane_rows) × (n ≤ plane_rows) }
+    ensures place { result ≡ place_behind kind 0 (line_of plane.entry.cells.now down row n) }
     ensures inside { PlaceFits result n }
 {
     for k in 0..n {
@@ -61,22 +63,19 @@ fn place_behind(
 
 // The rule numbers of a line of n, from a place on.
 fn count_numbers(
-    plane: &[u32],
-    bytes: &[u8],
-    spans: &[u32],
-    count: usize,
+    sheet: TextPlane,
     down: bool,
     row: usize,
     n: usize,
     from: usize,
 ) -> Result<u64, Refusal>
-    requires { LineHeld plane.now down row n bytes.now spans.now count × (from ≤ n) }
-    ensures { result ≡ counted (text_in bytes.now spans.now count) 0 (drop from (line_of plane.now down row n)) }
+    requires { LineHeld sheet.plane.cells.now down row n sheet.texts.count × (from ≤ n) }
+    ensures { result ≡ counted (text_of sheet.entry.texts) 0 (drop from (line_of sheet.entry.plane.cells.now down row n)) }
 {
     let mut m: u64 = 0;
     for k in from..n {
-        let c = slot_at(plane, down, row, k).ok_or(Refusal::PlaneMalformed)?;
-        let Some(x) = number_in(c, bytes, spans, count) else {
+        let c = slot_at(sheet.plane, down, row, k).ok_or(Refusal::PlaneMalformed)?;
+        let Some(x) = number_in(sheet.texts, c) else {
             return Ok(0);
         };
         if x != m + 1 {
@@ -89,42 +88,31 @@ fn count_numbers(
 
 // The rule numbers behind the first cell of a kind in a line of n.
 fn count_behind(
-    plane: &[u32],
-    bytes: &[u8],
-    spans: &[u32],
-    count: usize,
+    sheet: TextPlane,
     down: bool,
     row: usize,
     n: usize,
     kind: Cell,
 ) -> Result<u64, Refusal>
-    requires { LineHeld plane.now down row n bytes.now spans.now count }
-    ensures { result ≡ counted_behind (text_in bytes.now spans.now count) kind (line_of plane.now down row n) }
+    requires { LineHeld sheet.plane.cells.now down row n sheet.texts.count }
+    ensures { result ≡ counted_behind (text_of sheet.entry.texts) kind (line_of sheet.entry.plane.cells.now down row n) }
 {
-    let k = place_behind(plane, down, row, n, kind)?;
-    count_numbers(plane, bytes, spans, count, down, row, n, k)
+    let k = place_behind(sheet.plane, down, row, n, kind)?;
+    count_numbers(sheet, down, row, n, k)
 }
 
 // Rule numbers along the last row.
-fn numbers_right(
-    plane: &[u32],
-    n: usize,
-    bytes: &[u8],
-    spans: &[u32],
-    count: usize,
-) -> Result<RuleNumbersPlacement, Refusal>
-    requires { Held plane.now n bytes.now spans.now count × (0 < n) }
-    ensures { result ≡ right_of (numbers_right (text_in bytes.now spans.now count) (plane_in plane.now n)) }
+fn numbers_right(sheet: TextPlane) -> Result<RuleNumbersPlacement, Refusal>
+    requires { 0 < sheet.plane.rows }
+    ensures { result ≡ right_of (numbers_right (text_of sheet.entry.texts) (plane_of sheet.entry.plane)) }
 {
-    let width = plane[n - 1] as usize;
+    let plane = sheet.plane;
+    let last = plane.rows - 1;
     let m = count_behind(
-        plane,
-        bytes,
-        spans,
-        count,
+        sheet,
         false,
-        n - 1,
-        width,
+        last,
+        plane.width(last),
         Cell::VerticalOutputDoubleLine,
     )?;
     if 0 < m {
@@ -134,28 +122,14 @@ fn numbers_right(
 }
 
 // Rule numbers down column 0, or else along the last row.
-pub fn rule_numbers(
-    plane: &[u32],
-    n: usize,
-    bytes: &[u8],
-    spans: &[u32],
-    count: usize,
-) -> Result<RuleNumbersPlacement, Refusal>
-    requires { Held plane.now n bytes.now spans.now count × (0 < n) }
-    ensures { result ≡ rule_numbers_of (text_in bytes.now spans.now count) (plane_in plane.now n) }
+pub fn rule_numbers(sheet: TextPlane) -> Result<RuleNumbersPlacement, Refusal>
+    requires { 0 < sheet.plane.rows }
+    ensures { result ≡ rule_numbers_of (text_of sheet.entry.texts) (plane_of sheet.entry.plane) }
 {
-    let m = count_behind(
-        plane,
-        bytes,
-        spans,
-        count,
-        true,
-        0,
-        n,
-        Cell::HorizontalOutputDoubleLine,
-    )?;
+    let plane = sheet.plane;
+    let m = count_behind(sheet, true, 0, plane.rows, Cell::HorizontalOutputDoubleLine)?;
     if 0 < m {
         return Ok(RuleNumbersPlacement::LeftBelow(m));
     }
-    numbers_right(plane, n, bytes, spans, count)
+    numbers_right(sheet)
 }

@@ -17,6 +17,7 @@ use Rattle.model.specs.Refusals.{Reading}
 use Rattle.model.specs.declared.Refusal.TheVariants.{CanvasTooLarge}
 use Rattle.utf8.specs.Utf8.{SameCheck}
 use Rattle.sheet_rows.specs.Found.{StartAt, Measured, rows_in, Counted, Kept}
+use Rattle.sheet_rows.specs.declared.Row.{Row}
 use Rattle.sheet_rows.specs.Rows.{rows_at, widest}
 use Rattle.scan.specs.Canvas.{Size, fits, size_of, text_in, blanks_in, scanned_in, Ended, ValidIn}
 use Rattle.scan.specs.Rows.{blank, flat}
@@ -63,9 +64,9 @@ module _ {s : List ℕ} {from at rows columns end : ℕ} (i : StartAt s from at)
     pub scan_columns : canvas_columns < columns → Answered s from d b (Err (CanvasTooLarge rows columns)) d b
     scan_columns h = large (rw (← width, lt-leb columns canvas_columns h) (and-false (leb (length (rows_at s from)) canvas_rows)))
 
-    module _ (h : rows ≤ canvas_rows) (k : columns ≤ canvas_columns) {lines : List ℕ} (q : Kept s at lines rows) where
-      pub scan_room : 2 * canvas_rows ≤ length lines → canvas_size ≤ length d → canvas_size ≤ length b
-          → Counted s lines rows × (2 * rows ≤ length lines) × (widest (rows_in s lines rows) ≤ columns) × (rows * columns ≤ length d) × (rows * columns ≤ length b)
+    module _ (h : rows ≤ canvas_rows) (k : columns ≤ canvas_columns) {kept : List Row} (q : Kept s at kept rows) where
+      pub scan_room : canvas_rows ≤ length kept → canvas_size ≤ length d → canvas_size ≤ length b
+          → Counted s kept rows × (rows ≤ length kept) × (widest (rows_in s kept rows) ≤ columns) × (rows * columns ≤ length d) × (rows * columns ≤ length b)
       scan_room l n o =
           let r : rows * columns ≤ canvas_size = mul-le-mul h k in
           (q.counted, omega arith, omega (arith, m.width, ap widest q.same), omega arith, omega arith)
@@ -73,11 +74,11 @@ module _ {s : List ℕ} {from at rows columns end : ℕ} (i : StartAt s from at)
       fitting : fits (rows_at s from) ≡ true
       fitting = rw (← height, ← width, le-leb rows canvas_rows h, le-leb columns canvas_columns k)
 
-      pub scan_canvas : (valid : ℕ) {o p : List ℕ} → SameCheck s from valid → (o ≡ put d 0 (flat columns (rows_in s lines rows))) × (p ≡ put b 0 (flat columns (map blank (rows_in s lines rows))))
+      pub scan_canvas : (valid : ℕ) {o p : List ℕ} → SameCheck s from valid → (o ≡ put d 0 (flat columns (rows_in s kept rows))) × (p ≡ put b 0 (flat columns (map blank (rows_in s kept rows))))
           → Answered s from d b (Ok (record { rows = rows; columns = columns; end = end; valid = valid })) o p
       unfolding size_of text_in blanks_in
       scan_canvas valid v w =
-          let e : rows_in s lines rows ≡ rows_at s from = q.same ∙ sym i.same in (
+          let e : rows_in s kept rows ≡ rows_at s from = q.same ∙ sym i.same in (
             rw (fitting, ← height, ← width),
             (
               (m.inside, m.rest ∙ sym i.rest),

@@ -1,4 +1,5 @@
 // From the bytes of a sheet to the layers TEXT and BODY.
+// Places are indices into the whole text, as in `utf8`.
 #![tactic(auto)]
 
 ghost use Rattle.std.specs.Prelude.{◌≡◌, map, ◌+◌, ◌*◌, ◌≤◌, length, replicate};
@@ -11,7 +12,7 @@ ghost use Rattle.scan.specs.Rows.{fill, blank, flat};
 ghost use Rattle.scan.specs.Canvas.{size_of, text_in, blanks_in, scanned_in, Ended, ValidIn};
 
 use model::{Refusal, box_drawing, limits};
-use sheet_rows::LINE_NUMBERS;
+use sheet_rows::Row;
 
 // The code points of a text, into out from `base` on.
 fn put_codes(s: &[u8], from: usize, count: usize, out: &mut [u32], base: usize)
@@ -56,23 +57,15 @@ fn put_row(
     put_same(body, base + count, width - count, box_drawing::LIGHT_SHADE);
 }
 
-// The rows whose two numbers are kept, into both layers, each filled to `width`.
-fn write_rows(
-    s: &[u8],
-    lines: &[usize],
-    rows: usize,
-    width: usize,
-    text: &mut [u32],
-    body: &mut [u32],
-)
-    requires { Counted s.now lines.now rows × (2 * rows ≤ length lines.now) × (widest (rows_in s.now lines.now rows) ≤ width) × (rows * width ≤ length text.old) × (rows * width ≤ length body.old) }
-    ensures text { text.new ≡ put text.old 0 (flat width (rows_in s.now lines.now rows)) }
-    ensures body { body.new ≡ put body.old 0 (flat width (map blank (rows_in s.now lines.now rows))) }
+// The first n rows, into both layers, each filled to `width`.
+fn write_rows(s: &[u8], rows: &[Row], n: usize, width: usize, text: &mut [u32], body: &mut [u32])
+    requires { Counted s.now rows.now n × (n ≤ length rows.now) × (widest (rows_in s.now rows.now n) ≤ width) × (n * width ≤ length text.old) × (n * width ≤ length body.old) }
+    ensures text { text.new ≡ put text.old 0 (flat width (rows_in s.now rows.now n)) }
+    ensures body { body.new ≡ put body.old 0 (flat width (map blank (rows_in s.now rows.now n))) }
 {
-    for r in 0..rows {
-        let from = lines[2 * r];
-        let count = lines[2 * r + 1];
-        put_row(s, from, count, width, text, body, r * width);
+    for r in 0..n {
+        let row = rows[r];
+        put_row(s, row.from, row.count, width, text, body, r * width);
     }
 }
 
@@ -95,8 +88,8 @@ pub fn scan(s: &[u8], from: usize, text: &mut [u32], body: &mut [u32]) -> Result
     ensures body { body.new ≡ blanks_in (rows_at s.now from) body.old }
 {
     let start = sheet_rows::sheet_start(s, from);
-    let mut lines = [0usize; LINE_NUMBERS];
-    let m = sheet_rows::measure(s, start.at, start.valid, &mut lines);
+    let mut kept = [Row { from: 0, count: 0 }; limits::CANVAS_ROWS];
+    let m = sheet_rows::measure(s, start.at, start.valid, &mut kept);
     let rows = m.rows;
     let columns = m.columns;
     if limits::CANVAS_ROWS < rows {
@@ -105,7 +98,7 @@ pub fn scan(s: &[u8], from: usize, text: &mut [u32], body: &mut [u32]) -> Result
     if limits::CANVAS_COLUMNS < columns {
         return Err(Refusal::CanvasTooLarge(rows, columns));
     }
-    write_rows(s, &lines, rows, columns, text, body);
+    write_rows(s, &kept, rows, columns, text, body);
     Ok(Canvas {
         rows,
         columns,

@@ -1,23 +1,24 @@
 -- The table of the periods of a text, while it is built.
 use mathlib.Core.Path.{◌≡◌, refl, sym, ap, ◌∙◌}
 use mathlib.Core.Bool.{Bool, true, false, ◌&&◌}
-use mathlib.Core.List.{List}
+use mathlib.Core.List.{List, [], ◌∷◌, ◌++◌}
 use Prim.Native.Nat.{ℕ, ◌+◌, ◌-◌, ◌*◌, ◌^◌, ◌≤◌, ◌<◌}
 use native.Mathlib.Nat.{le_refl, add-lt-add_of_lt_of_le, add-lt-add_of_le_of_lt, pow-suc, pow-le-pow_right}
 use native.Mathlib.Numerals.{add-one}
 use native.Mathlib.Omega.{arith}
 use borrow.Author.Tests.{ltb-true, ltb-false, leb-true, le-leb}
 use lib.Dec.{leb, ltb}
-use lib.ListN.{length, get_or, set}
+use lib.ListN.{length, get_or}
 use Rattle.lists.proofs.Tests.{by_flag, both, true_false}
+use Rattle.search.specs.declared.Stretch.{Stretch}
 use Rattle.search.specs.Periods.{Period, Entry, period_at, reach_at, Covered, Knows, Periods, Safe}
 use Rattle.search.proofs.Entries.{Added, entries-length, entries-sound, entries_order, covered_more, covered_old, covered_new}
 use Rattle.search.proofs.Shifting.{left, shift_less}
 use Rattle.search.proofs.Settling.{ToldBelow, Settled, settled_knows, shift_below, shift_period}
 
 -- n entries, the last of which is `last` and reaches `top`; all are 0 where there is none
-pub record Table (p t : List ℕ) (n last top : ℕ) : Type 0 where
-  pub room : 80 ≤ length t
+pub record Table (p : List ℕ) (t : List Stretch) (n last top : ℕ) : Type 0 where
+  pub room : length t ≡ n
   pub sound : (i : ℕ) → i < n → Entry p (period_at t i) (reach_at t i)
   pub order : (i : ℕ) → i < n → reach_at t i ≤ top
   pub newest : 0 < last → Covered t n last top
@@ -29,7 +30,7 @@ pub record Table (p t : List ℕ) (n last top : ℕ) : Type 0 where
   pub grown : 3 ^ n ≤ 3 * last + 1
 
 -- p stands in itself at e as far as `reach`
-pub record Building (p t : List ℕ) (e reach n top : ℕ) : Type 0 where
+pub record Building (p : List ℕ) (t : List Stretch) (e reach n top : ℕ) : Type 0 where
   pub last : ℕ
   pub table : Table p t n last top
   pub some : 0 < e
@@ -39,12 +40,12 @@ pub record Building (p t : List ℕ) (e reach n top : ℕ) : Type 0 where
   pub period : Period p reach e
   pub below : ToldBelow p t n e
 
-pub building_start : {p t : List ℕ} → (0 < length p) × (80 ≤ length t) → Building p t 1 1 0 0
-building_start {p} {t} h =
+pub building_start : {p : List ℕ} → 0 < length p → {t : List Stretch} → t ≡ [] → Building p t 1 1 0 0
+building_start {p} h {t} q =
     record {
       last = 0;
       table = record {
-        room = h.1;
+        room = ap length q;
         sound = λ i x. absurd (omega arith);
         order = λ i x. absurd (omega arith);
         newest = λ x. absurd (omega arith);
@@ -58,7 +59,7 @@ building_start {p} {t} h =
       some = omega arith;
       low = omega arith;
       apart = omega arith;
-      inside = h.0;
+      inside = h;
       period = record { same = λ k x. absurd (omega arith) };
       below = λ f a b l c d q. absurd (omega arith);
     }
@@ -70,12 +71,7 @@ few n e m g h l =
     (λ y. let k : 3 ^ 41 ≤ 3 ^ n = pow-le-pow_right {n = 3} (omega arith) {i = 41} {j = n} (omega (arith, ltb-true 40 n y)) in absurd (omega arith))
     (λ z. ltb-false 40 n z)
 
-module _ {p t : List ℕ} {e reach n top : ℕ} (b : Building p t e reach n top) where
-  pub building_room : length p < 2 ^ 64 → 2 * n ≤ length t
-  building_room l =
-      let k = few n b.last (length p) b.table.grown (omega (arith, b.table.span, b.table.inside)) l in
-      omega (arith, b.table.room)
-
+module _ {p : List ℕ} {t : List Stretch} {e reach n top : ℕ} (b : Building p t e reach n top) where
   pub building_more : reach < length p → get_or p reach 0 ≡ get_or p (reach - e) 0 → Building p t e (reach + 1) n top
   building_more l h =
       record {
@@ -123,7 +119,7 @@ module _ {p t : List ℕ} {e reach n top : ℕ} (b : Building p t e reach n top)
           record { sound = b.table.sound; below = b.below; inside = b.inside; period = b.period; end = end; here = covered }
 
       pub building_end : length p ≤ reach → length p < 2 ^ 64 → Periods p t n
-      building_end l k = record { room = building_room k; knows = λ j h. settled_knows (settled (λ m x q. omega arith)) j (omega arith) }
+      building_end l k = record { room = omega (arith, b.table.room); knows = λ j h. settled_knows (settled (λ m x q. omega arith)) j (omega arith) }
 
       module _ (d : get_or p reach 0 ≡ get_or p (reach - e) 0 → ⊥) {by keep : ℕ} where
         pub building_safe : ((o : List ℕ) → Knows o t n (reach - e) → Safe o (reach - e) by keep) → Safe p (reach - e) by keep
@@ -184,7 +180,7 @@ module _ {p t : List ℕ} {e reach n top : ℕ} (b : Building p t e reach n top)
       grown : 3 ^ (n + 1) ≤ 3 * e + 1
       grown = rw (add-one n, pow-suc 3 n) (omega (arith, apart, b.table.span, b.table.grown))
 
-      pub building_place : length p < 2 ^ 64 → 2 * n + 1 < length t
+      pub building_place : length p < 2 ^ 64 → length t < 40
       building_place l =
           let k = few (n + 1) e (length p) grown (omega (arith, long, b.inside)) l in
           omega (arith, b.table.room)
@@ -205,9 +201,9 @@ module _ {p t : List ℕ} {e reach n top : ℕ} (b : Building p t e reach n top)
       building_rises = add-lt-add_of_le_of_lt (le_refl (left p p e (reach - e))) (omega (arith, beyond, b.inside))
 
       -- the table u with the new entry
-      module _ (l : length p < 2 ^ 64) {u : List ℕ} (w : u ≡ set (set t (2 * n) e) (2 * n + 1) reach) where
+      module _ {u : List Stretch} (w : u ≡ t ++ (record { period = e; reach = reach } ∷ [])) where
         added : Added t u n e reach
-        added = record { fits = building_place l; same = w }
+        added = record { fits = b.table.room; same = w }
 
         sound : (i : ℕ) → i < n + 1 → Entry p (period_at u i) (reach_at u i)
         sound = entries-sound added b.table.sound entry
@@ -219,14 +215,14 @@ module _ {p t : List ℕ} {e reach n top : ℕ} (b : Building p t e reach n top)
         building_last k =
             let s : Settled p u (n + 1) e reach =
             record { sound = sound; below = below; inside = b.inside; period = b.period; end = λ m x q. omega arith; here = λ _. covered_new added } in
-            record { room = omega (arith, building_place l, entries-length added); knows = λ j g. settled_knows s j (omega arith) }
+            record { room = omega (arith, entries-length added); knows = λ j g. settled_knows s j (omega arith) }
 
         pub building_add : (get_or p reach 0 ≡ get_or p (reach - e) 0 → ⊥) → Building p u e reach (n + 1) reach
         building_add d =
             record {
               last = e;
               table = record {
-                room = omega (arith, entries-length added, b.table.room);
+                room = entries-length added;
                 sound = sound;
                 order = entries_order added (λ i g. omega (arith, b.table.order i g, beyond)) (omega arith);
                 newest = λ _. covered_new added;

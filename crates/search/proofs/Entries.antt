@@ -1,46 +1,51 @@
 -- A table of periods with one entry more.
 use mathlib.Core.Path.{◌≡◌, ap, ◌∙◌}
-use mathlib.Core.List.{List}
-use Prim.Native.Nat.{ℕ, ◌+◌, ◌*◌, ◌≤◌, ◌<◌}
+use mathlib.Core.List.{List, [], ◌∷◌, ◌++◌}
+use Prim.Native.Nat.{ℕ, ◌+◌, ◌≤◌, ◌<◌}
 use native.Mathlib.Omega.{arith}
-use lib.ListN.{length, get_or, set, length-set}
-use lib.Seq.{get_or-set_same, get_or-set_other}
-use Rattle.search.specs.Periods.{Entry, period_at, reach_at, Covered}
+use lib.ListN.{length, get_or, get_or-append, length-append}
+use lib.Seq.{get_or_at}
+use Rattle.search.specs.declared.Stretch.{Stretch}
+use Rattle.search.specs.Periods.{Entry, no_stretch, period_at, reach_at, Covered}
 use Rattle.search.proofs.Shifting.{one_more}
 
 -- a larger period and a shorter front
-pub covered_more : {t : List ℕ} {n e f l m : ℕ} → e ≤ f → m ≤ l → Covered t n e l → Covered t n f m
+pub covered_more : {t : List Stretch} {n e f l m : ℕ} → e ≤ f → m ≤ l → Covered t n e l → Covered t n f m
 covered_more h k c = record { place = c.place; inside = c.inside; low = omega (arith, c.low); high = omega (arith, c.high) }
 
 entry_by : {p : List ℕ} {e d r q : ℕ} → d ≡ e → q ≡ r → Entry p e r → Entry p d q
 entry_by x y h = rw (x, y) h
 
 -- u is t with e and its reach as entry n
-pub record Added (t u : List ℕ) (n e reach : ℕ) : Type 0 where
-  pub fits : 2 * n + 1 < length t
-  pub same : u ≡ set (set t (2 * n) e) (2 * n + 1) reach
+pub record Added (t u : List Stretch) (n e reach : ℕ) : Type 0 where
+  pub fits : length t ≡ n
+  pub same : u ≡ t ++ (record { period = e; reach = reach } ∷ [])
 
-module _ {t u : List ℕ} {n e reach : ℕ} (a : Added t u n e reach) where
-  pub entries-length : length u ≡ length t
-  entries-length = ap length a.same ∙ length-set (set t (2 * n) e) (2 * n + 1) reach ∙ length-set t (2 * n) e
+module _ {t u : List Stretch} {n e reach : ℕ} (a : Added t u n e reach) where
+  pub entries-length : length u ≡ n + 1
+  entries-length = ap length a.same ∙ length-append t (record { period = e; reach = reach } ∷ []) ∙ omega (arith, a.fits)
 
-  other : (k : ℕ) → (k ≡ 2 * n → ⊥) → (k ≡ 2 * n + 1 → ⊥) → get_or u k 0 ≡ get_or t k 0
-  other k x y =
-      ap (λ (l : List ℕ). get_or l k 0) a.same ∙ get_or-set_other (set t (2 * n) e) (2 * n + 1) k reach 0 y ∙ get_or-set_other t (2 * n) k e 0 x
+  old : (i : ℕ) → i < n → get_or u i no_stretch ≡ get_or t i no_stretch
+  old i h =
+      ap (λ (l : List Stretch). get_or l i no_stretch) a.same
+      ∙ get_or-append t (record { period = e; reach = reach } ∷ []) no_stretch i (omega (arith, a.fits))
 
   old_period : (i : ℕ) → i < n → period_at u i ≡ period_at t i
-  old_period i h = other (2 * i) (λ q. omega arith) (λ q. omega arith)
+  old_period i h = ap (λ (x : Stretch). x.period) (old i h)
 
   old_reach : (i : ℕ) → i < n → reach_at u i ≡ reach_at t i
-  old_reach i h = other (2 * i + 1) (λ q. omega arith) (λ q. omega arith)
+  old_reach i h = ap (λ (x : Stretch). x.reach) (old i h)
+
+  new : get_or u n no_stretch ≡ record { period = e; reach = reach }
+  new =
+      ap (λ (l : List Stretch). get_or l n no_stretch) a.same
+      ∙ get_or_at t (record { period = e; reach = reach }) [] no_stretch n a.fits
 
   new_period : period_at u n ≡ e
-  new_period =
-      ap (λ (x : List ℕ). get_or x (2 * n) 0) a.same ∙ get_or-set_other (set t (2 * n) e) (2 * n + 1) (2 * n) reach 0 (λ q. omega arith)
-      ∙ get_or-set_same t (2 * n) e 0 (omega (arith, a.fits))
+  new_period = ap (λ (x : Stretch). x.period) new
 
   new_reach : reach_at u n ≡ reach
-  new_reach = ap (λ (x : List ℕ). get_or x (2 * n + 1) 0) a.same ∙ get_or-set_same (set t (2 * n) e) (2 * n + 1) reach 0 (omega (arith, a.fits, length-set t (2 * n) e))
+  new_reach = ap (λ (x : Stretch). x.reach) new
 
   pub entries-sound : {p : List ℕ} → ((i : ℕ) → i < n → Entry p (period_at t i) (reach_at t i)) → Entry p e reach
       → (i : ℕ) → i < n + 1 → Entry p (period_at u i) (reach_at u i)

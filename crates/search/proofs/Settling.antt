@@ -7,15 +7,16 @@ use borrow.Author.Tests.{ltb-true, ltb-false}
 use lib.Dec.{ltb}
 use lib.ListN.{length, get_or}
 use Rattle.lists.proofs.Tests.{by_flag}
+use Rattle.search.specs.declared.Stretch.{Stretch}
 use Rattle.search.specs.Periods.{Period, Entry, period_at, reach_at, Covered, Knows, Safe}
 use Rattle.search.proofs.Entries.{covered_more}
 
 -- n entries tell of each front each period below e
-abbrev pub ToldBelow : List ℕ → List ℕ → ℕ → ℕ → Type 0
+abbrev pub ToldBelow : List ℕ → List Stretch → ℕ → ℕ → Type 0
 ToldBelow p t n e = (f : ℕ) → 0 < f → f < e → (l : ℕ) → l ≤ length p → 4 * f ≤ l → Period p l f → Covered t n f l
 
 -- they also tell of e, which reaches no further than `reach`
-pub record Settled (p t : List ℕ) (n e reach : ℕ) : Type 0 where
+pub record Settled (p : List ℕ) (t : List Stretch) (n e reach : ℕ) : Type 0 where
   pub sound : (i : ℕ) → i < n → Entry p (period_at t i) (reach_at t i)
   pub below : ToldBelow p t n e
   pub inside : reach ≤ length p
@@ -23,7 +24,7 @@ pub record Settled (p t : List ℕ) (n e reach : ℕ) : Type 0 where
   pub end : (l : ℕ) → l ≤ length p → Period p l e → l ≤ reach
   pub here : 4 * e ≤ reach → Covered t n e reach
 
-module _ {p t : List ℕ} {n e reach : ℕ} (s : Settled p t n e reach) where
+module _ {p : List ℕ} {t : List Stretch} {n e reach : ℕ} (s : Settled p t n e reach) where
   -- of a front up to there they tell each larger period
   shorter : (f l : ℕ) → e ≤ f → l ≤ reach → 4 * f ≤ l → Covered t n f l
   shorter f l b c d = covered_more b c (s.here (omega arith))

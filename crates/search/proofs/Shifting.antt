@@ -8,6 +8,7 @@ use borrow.Author.Tests.{ltb-true, ltb-false, leb-true, le-leb}
 use lib.Dec.{leb, ltb}
 use lib.ListN.{length}
 use Rattle.lists.proofs.Tests.{by_flag, both, true_false}
+use Rattle.search.specs.declared.Stretch.{Stretch}
 use Rattle.search.specs.Periods.{Period, period_at, reach_at, Covered, Knows, Safe}
 
 -- what holds below n and at n holds below n + 1
@@ -19,18 +20,18 @@ period_front : {p : List ℕ} {l m e : ℕ} → m ≤ l → Period p l e → Per
 period_front h d = record { same = λ k x. d.same k (omega arith) }
 
 -- entry k tells of the first j bytes
-abbrev covering : List ℕ → ℕ → ℕ → Bool
+abbrev covering : List Stretch → ℕ → ℕ → Bool
 covering t j k = leb (4 * period_at t k) j && leb j (reach_at t k)
 
 -- no entry before i does
-pub record Shifting (t : List ℕ) (n j i : ℕ) : Type 0 where
+pub record Shifting (t : List Stretch) (n j i : ℕ) : Type 0 where
   pub inside : i ≤ n
   pub none : (k : ℕ) → k < i → covering t j k ≡ false
 
-pub shifting_start : {t : List ℕ} {n j : ℕ} → Shifting t n j 0
+pub shifting_start : {t : List Stretch} {n j : ℕ} → Shifting t n j 0
 shifting_start = record { inside = omega arith; none = λ k h. absurd (omega arith) }
 
-module _ {t : List ℕ} {n j i : ℕ} (s : Shifting t n j i) where
+module _ {t : List Stretch} {n j i : ℕ} (s : Shifting t n j i) where
   pub shifting_end : n ≤ i → (p : List ℕ) → Knows p t n j → Safe p j (j / 4 + 1) 0
   shifting_end l p w =
       record {

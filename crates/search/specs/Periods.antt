@@ -1,5 +1,6 @@
 -- The search for a text by the periods of its fronts, after Galil and Seiferas 1983: no caller of the value split needs these.
 use Rattle.std.specs.Prelude.{true, false, List, ◌≡◌, ℕ, ◌+◌, ◌-◌, ◌*◌, ◌≤◌, ◌<◌, length, get_or, drop}
+use Rattle.search.specs.declared.Stretch.{Stretch}
 use Rattle.emphasis.specs.Emphasis.{starts_with}
 
 -- the first l bytes of p have the period e
@@ -13,28 +14,32 @@ pub record Entry (p : List ℕ) (e reach : ℕ) : Type 0 where
   pub period : Period p reach e
   pub least : (f : ℕ) → 0 < f → f < e → Period p (4 * e) f → ⊥
 
--- entry i of a table of periods, and how far the period reaches
-abbrev pub period_at : List ℕ → ℕ → ℕ
-period_at t i = get_or t (2 * i) 0
+-- what stands past the end of a table
+abbrev pub no_stretch : Stretch
+no_stretch = record { period = 0; reach = 0 }
 
-abbrev pub reach_at : List ℕ → ℕ → ℕ
-reach_at t i = get_or t (2 * i + 1) 0
+-- entry i of a table of periods, and how far the period reaches
+abbrev pub period_at : List Stretch → ℕ → ℕ
+period_at t i = (get_or t i no_stretch).period
+
+abbrev pub reach_at : List Stretch → ℕ → ℕ
+reach_at t i = (get_or t i no_stretch).reach
 
 -- one of n entries has a period of at most e that reaches l
-pub record Covered (t : List ℕ) (n e l : ℕ) : Type 0 where
+pub record Covered (t : List Stretch) (n e l : ℕ) : Type 0 where
   pub place : ℕ
   pub inside : place < n
   pub low : period_at t place ≤ e
   pub high : l ≤ reach_at t place
 
 -- n entries of t tell of the first j bytes of p each period up to a fourth of them, or a smaller one
-pub record Knows (p t : List ℕ) (n j : ℕ) : Type 0 where
+pub record Knows (p : List ℕ) (t : List Stretch) (n j : ℕ) : Type 0 where
   pub sound : (i : ℕ) → i < n → Entry p (period_at t i) (reach_at t i)
   pub all : (e : ℕ) → 0 < e → 4 * e ≤ j → Period p j e → Covered t n e j
 
 -- n entries tell so of every front of p
-pub record Periods (p t : List ℕ) (n : ℕ) : Type 0 where
-  pub room : 2 * n ≤ length t
+pub record Periods (p : List ℕ) (t : List Stretch) (n : ℕ) : Type 0 where
+  pub room : n ≤ length t
   pub knows : (j : ℕ) → j ≤ length p → Knows p t n j
 
 -- where j bytes of p matched, p cannot stand before `by` bytes on, and there `keep` bytes match.

@@ -1,8 +1,12 @@
 // The search for a text in another by the periods of its fronts, after Galil and Seiferas 1983.
+// Places are indices into the whole text, as in `utf8`.
 #![tactic(auto)]
 
-ghost use Rattle.std.specs.Prelude.{◌&&◌, List, ◌≡◌, ℕ, ◌+◌, ◌*◌, ◌≤◌, ◌<◌, leb, ltb, length, set};
+ghost use Rattle.std.specs.Prelude.{◌&&◌, List, ◌≡◌, ℕ, ◌+◌, ◌*◌, ◌≤◌, ◌<◌, leb, ltb, length};
+ghost use Rattle.arrayvec.specs.ArrayVec.{array_vec_len};
 ghost use Rattle.search.specs.Periods.{Knows, Safe, Periods, FirstPlace};
+
+use arrayvec::ArrayVec;
 
 // Whether a period e that reaches `reach` tells of the first j bytes.
 fn covers(e: usize, reach: usize, j: usize) -> bool
@@ -18,15 +22,27 @@ struct Shift {
     keep: usize,
 }
 
-// The shift after j matched bytes, by the n periods in t.
-fn shift_after(t: &[usize], n: usize, j: usize) -> Shift
-    requires { 2 * n ≤ length t.now }
-    ensures { (p : List ℕ) → Knows p t.now n j → Safe p j result.by result.keep }
+// A period of a text, and how far it reaches in it.
+#[derive(Clone, Copy, Default)]
+pub struct Stretch {
+    pub period: usize,
+    pub reach: usize,
+}
+
+// No text has more periods than these in a table.
+pub const PERIODS: usize = 40;
+
+// The shift after j matched bytes, by the periods in t.
+fn shift_after(t: &[Stretch], j: usize) -> Shift
+    ensures { (p : List ℕ) → Knows p t.now (length t.now) j → Safe p j result.by result.keep }
 {
-    for i in 0..n {
-        let e = t[2 * i];
-        if covers(e, t[2 * i + 1], j) {
-            return Shift { by: e, keep: j - e };
+    for i in 0..t.len() {
+        let e = t[i];
+        if covers(e.period, e.reach, j) {
+            return Shift {
+                by: e.period,
+                keep: j - e.period,
+            };
         }
     }
     Shift {
@@ -42,49 +58,37 @@ fn is_new(e: usize, reach: usize, top: usize) -> bool
     if e <= reach / 4 { top < reach } else { false }
 }
 
-// Entry n of a table of periods.
-fn put_entry(t: &mut [usize], n: usize, e: usize, reach: usize)
-    requires { 2 * n + 1 < length t.old }
-    ensures { t.new ≡ set (set t.old (2 * n) e) (2 * n + 1) reach }
+// The short periods of p, by a search for p in itself after Galil and Seiferas 1983. Each is more than three times the one before.
+pub fn periods_of(p: &[u8]) -> ArrayVec<Stretch, PERIODS>
+    requires { 0 < length p.now }
+    ensures { Periods p.now result.items (array_vec_len result) }
 {
-    t[2 * n] = e;
-    t[2 * n + 1] = reach;
-}
-
-// The short periods of p, into t, by a search for p in itself after Galil and Seiferas 1983: how many. Each is more than
-// three times the one before, so that 40 have room for all.
-pub fn periods_of(p: &[u8], t: &mut [usize]) -> usize
-    requires { (0 < length p.now) × (80 ≤ length t.old) }
-    ensures { Periods p.now t.new result }
-{
+    let mut t = ArrayVec::new();
     let mut e: usize = 1;
     let mut reach: usize = 1;
-    let mut n: usize = 0;
     let mut top: usize = 0;
     // No `for`: a turn may go on, or try another period at the same place.
     while reach < p.len() {
         if p[reach] == p[reach - e] {
             reach += 1;
         } else if is_new(e, reach, top) {
-            put_entry(t, n, e, reach);
-            n += 1;
+            t.push(Stretch { period: e, reach });
             top = reach;
         } else {
-            let s = shift_after(t, n, reach - e);
+            let s = shift_after(t.as_slice(), reach - e);
             e += s.by;
             reach = e + s.keep;
         }
     }
     if is_new(e, reach, top) {
-        put_entry(t, n, e, reach);
-        return n + 1;
+        t.push(Stretch { period: e, reach });
     }
-    n
+    t
 }
 
 // The first place r from `from` on where p stands in s, or the end, in at most 4 (r - from) + |p| turns.
-pub fn find(s: &[u8], from: usize, p: &[u8], t: &[usize], n: usize) -> usize
-    requires { (from ≤ length s.now) × Periods p.now t.now n }
+pub fn find(s: &[u8], from: usize, p: &[u8], t: &[Stretch]) -> usize
+    requires { (from ≤ length s.now) × Periods p.now t.now (length t.now) }
     ensures { FirstPlace s.now from p.now result }
 {
     let mut i = from;
@@ -97,7 +101,7 @@ pub fn find(s: &[u8], from: usize, p: &[u8], t: &[usize], n: usize) -> usize
         if s[i + j] == p[j] {
             j += 1;
         } else {
-            let b = shift_after(t, n, j);
+            let b = shift_after(t, j);
             i += b.by;
             j = b.keep;
         }

@@ -1,10 +1,10 @@
 -- The two cases of what is printed, and how much of the input tells it.
-use mathlib.Core.List.{List}
+use mathlib.Core.List.{List, [], ◌++◌}
 use mathlib.Core.Path.{◌≡◌, ap, ◌∙◌, subst, sym}
-use Prim.Native.Nat.{ℕ, ◌-◌, ◌≤◌, ◌<◌}
+use Prim.Native.Nat.{ℕ, ◌≤◌, ◌<◌}
 use native.Mathlib.Omega.{arith}
 use lib.Dec.{ltb}
-use lib.ListN.{length, take, drop}
+use lib.ListN.{length, take}
 use lib.Seq.{take_all, length-take-le}
 use borrow.Author.Tests.{lt-ltb, le-ltb, ltb-true, ltb-false}
 use Rattle.std.specs.Prelude.{None, Some, Ok, Err, Result, IfSome, OnOk}
@@ -12,7 +12,6 @@ use Rattle.std.specs.Io.KnownBytes.{Appends}
 use Rattle.std.specs.Option.{option_map}
 use Rattle.std.specs.declared.option.Option.{Option}
 use Rattle.print.specs.Decimal.{Written}
-use Rattle.print.proofs.WrittenLaws.{take_written}
 use Rattle.lists.proofs.Tests.{by_flag}
 use Rattle.model.specs.Limits.{text_bytes}
 use Rattle.policies.specs.DrawnPolicy.{walked_policy}
@@ -37,12 +36,11 @@ printed_front s n h =
     (λ t. ap printed_for (take_all n s (ltb-false n (length s) t)))
 
 -- what is written is what is printed for all that the reader had, where that is known
-pub printed_known : {T E : Type 0} (r : Result T E) (known old new : Option (List ℕ)) (s : List ℕ) (limit : ℕ) {d o : List ℕ} {most end : ℕ}
-    → IfSome (option_map (take limit) known) (λ xs. s ≡ xs) → text_bytes < limit → Written d o 0 (printed_for s) most end
-    → OnOk r (Appends old new (take (end - 0) (drop 0 o))) → OnOk r (IfSome known (λ xs. Appends old new (printed_for xs)))
-printed_known (Err e) known old new s limit h l w a = tt
-printed_known (Ok x) None old new s limit h l w a = tt
-printed_known (Ok x) (Some xs) old new s limit {d} {o} {most} {end} h l w a =
-    let z : end - 0 ≡ end = omega arith in
-    let e : take (end - 0) (drop 0 o) ≡ printed_for xs = ap (λ (n : ℕ). take n o) z ∙ take_written w (omega arith) ∙ ap printed_for h ∙ printed_front xs limit l in
+pub printed_known : {T E : Type 0} (r : Result T E) (known old new : Option (List ℕ)) (s : List ℕ) (limit : ℕ) {d o : List ℕ} {most : ℕ}
+    → IfSome (option_map (take limit) known) (λ xs. s ≡ xs) → text_bytes < limit → d ≡ [] → Written d o (printed_for s) most
+    → OnOk r (Appends old new o) → OnOk r (IfSome known (λ xs. Appends old new (printed_for xs)))
+printed_known (Err e) known old new s limit h l f w a = tt
+printed_known (Ok x) None old new s limit h l f w a = tt
+printed_known (Ok x) (Some xs) old new s limit {d} {o} h l f w a =
+    let e : o ≡ printed_for xs = w.same ∙ ap (λ (d : List ℕ). d ++ printed_for s) f ∙ ap printed_for h ∙ printed_front xs limit l in
     subst (λ (bs : List ℕ). Appends old new bs) e a

@@ -1,12 +1,14 @@
 // Reads a sheet from standard input and prints its record, or why there is none.
 #![tactic(auto)]
 
-ghost use Rattle.std.specs.Prelude.{◌≤◌, length, OnOk, IfSome};
+ghost use Rattle.std.specs.Prelude.{◌+◌, ◌≤◌, OnOk, IfSome};
 ghost use Rattle.std.specs.Io.KnownBytes.{Appends};
+ghost use Rattle.arrayvec.specs.ArrayVec.{array_vec_len};
 ghost use Rattle.print.specs.Decimal.{Written};
 ghost use Rattle.outcome_lines.specs.PolicyLines.{report_bytes};
 ghost use Rattle.sheet.specs.Printed.{printed_for};
 
+use arrayvec::ArrayVec;
 use model::limits::TEXT_BYTES;
 use outcome_lines::REPORT_BYTES;
 use std::alloc::Global;
@@ -16,14 +18,15 @@ use std::io::{self, Read, Write};
 const INPUT_BYTES: usize = TEXT_BYTES + 1;
 
 // What is printed for the bytes that were read.
-fn put_printed(out: &mut [u8], s: &[u8]) -> usize
-    requires { report_bytes ≤ length out.old }
-    ensures { Written out.old out.new 0 (printed_for s.now) report_bytes result }
+fn put_printed<const N: usize>(out: &mut ArrayVec<u8, N>, s: &[u8])
+    requires { array_vec_len out.old + report_bytes ≤ N }
+    ensures { Written out.old.items out.new.items (printed_for s.now) report_bytes }
 {
     if TEXT_BYTES < s.len() {
-        return print::put_word(out, 0, b"too long\n");
+        print::put_word(out, b"too long\n");
+        return;
     }
-    reports::put_sheet(out, 0, s)
+    reports::put_sheet(out, s);
 }
 
 // Reads a sheet, or one byte more than it may have, and prints what there is to say of it.
@@ -36,9 +39,9 @@ fn print_record<R: Read + Drop, W: Write>(
 {
     let mut input = Vec::new(alloc);
     reader.take(INPUT_BYTES as u64).read_to_end(&mut input)?;
-    let mut out = [0u8; REPORT_BYTES];
-    let end = put_printed(&mut out, &input);
-    writer.write_all(&out[0..end])
+    let mut out: ArrayVec<u8, REPORT_BYTES> = ArrayVec::new();
+    put_printed(&mut out, &input);
+    writer.write_all(&out)
 }
 
 fn main(rt: HostRuntime) -> io::Result<()> {

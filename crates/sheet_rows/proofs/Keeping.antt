@@ -1,64 +1,55 @@
--- The rows of a sheet that are being kept: two numbers a row.
+-- The rows of a sheet that are being kept: a place and a count each.
 use mathlib.Core.Path.{◌≡◌, refl, sym, ap, ◌∙◌}
 use mathlib.Core.List.{List, [], ◌∷◌, ◌++◌, append-nil, append_assoc}
-use Prim.Native.Nat.{ℕ, ◌+◌, ◌*◌, ◌≤◌, ◌<◌}
+use Prim.Native.Nat.{ℕ, ◌+◌, ◌≤◌, ◌<◌}
 use native.Mathlib.Omega.{arith}
 use lib.ListN.{length, get_or, set}
-use lib.Seq.{get_or-set_same, get_or-set_other, lt-length-set}
+use lib.Seq.{get_or-set_same, get_or-set_other}
 use borrow.Author.Count.{below_more}
 use Rattle.lists.specs.Run.{run}
 use Rattle.lists.proofs.RunLaws.{build-same, build-next}
 use Rattle.model.specs.Box.{┘}
 use Rattle.model.specs.Limits.{canvas_rows}
 use Rattle.white_space.specs.Lines.{codes_at, LineAt}
-use Rattle.sheet_rows.specs.Found.{texts_at, row_in, rows_in, Counted, Kept}
+use Rattle.sheet_rows.specs.Found.{texts_at, no_row, row_in, rows_in, Counted, Kept}
+use Rattle.sheet_rows.specs.declared.Row.{Row}
 use Rattle.sheet_rows.specs.Rows.{up_to}
 use Rattle.sheet_rows.proofs.RowsLaws.{line-counted, rows_none, rows_last, rows_more, rows_end}
 
--- o is d with the two numbers of row n
-module _ (s d o : List ℕ) (n from count : ℕ) (fits : 2 * n + 1 < length d) (same : o ≡ set (set d (2 * n) from) (2 * n + 1) count) where
-  other : (k : ℕ) → k < 2 * n → get_or o k 0 ≡ get_or d k 0
-  other k h =
-      ap (λ (l : List ℕ). get_or l k 0) same ∙ get_or-set_other (set d (2 * n) from) (2 * n + 1) k count 0 (λ q. omega arith)
-      ∙ get_or-set_other d (2 * n) k from 0 (λ q. omega arith)
+-- o is d with row n
+module _ (s : List ℕ) (d o : List Row) (n : ℕ) (row : Row) (fits : n < length d) (same : o ≡ set d n row) where
+  other : (k : ℕ) → k < n → get_or o k no_row ≡ get_or d k no_row
+  other k h = ap (λ (l : List Row). get_or l k no_row) same ∙ get_or-set_other d n k row no_row (λ q. omega arith)
 
-  from-kept : get_or o (2 * n) 0 ≡ from
-  from-kept =
-      ap (λ (l : List ℕ). get_or l (2 * n) 0) same ∙ get_or-set_other (set d (2 * n) from) (2 * n + 1) (2 * n) count 0 (λ q. omega arith)
-      ∙ get_or-set_same d (2 * n) from 0 (omega arith)
-
-  count_kept : get_or o (2 * n + 1) 0 ≡ count
-  count_kept = ap (λ (l : List ℕ). get_or l (2 * n + 1) 0) same ∙ get_or-set_same (set d (2 * n) from) (2 * n + 1) count 0 (lt-length-set d (2 * n) from fits)
+  kept_row : get_or o n no_row ≡ row
+  kept_row = ap (λ (l : List Row). get_or l n no_row) same ∙ get_or-set_same d n row no_row fits
 
   old_row : (r : ℕ) → r < n → row_in s o r ≡ row_in s d r
-  old_row r h =
-      let a : get_or o (2 * r) 0 ≡ get_or d (2 * r) 0 = other (2 * r) (omega arith) in
-      let b : get_or o (2 * r + 1) 0 ≡ get_or d (2 * r + 1) 0 = other (2 * r + 1) (omega arith) in
-      rw (a, b)
+  old_row r h = rw (other r h)
 
-  new_row : row_in s o n ≡ codes_at s from count
-  new_row = rw (from-kept, count_kept)
+  new_row : row_in s o n ≡ codes_at s row.from row.count
+  new_row = rw kept_row
 
-  rows_next : rows_in s o (n + 1) ≡ rows_in s d n ++ (codes_at s from count ∷ [])
+  rows_next : rows_in s o (n + 1) ≡ rows_in s d n ++ (codes_at s row.from row.count ∷ [])
   rows_next = build-next n (row_in s o) ∙ rw (build-same n (row_in s o) (row_in s d) old_row, new_row)
 
-  counted_next : Counted s d n → count ≡ length (codes_at s from count) → Counted s o (n + 1)
+  counted_next : Counted s d n → row.count ≡ length (codes_at s row.from row.count) → Counted s o (n + 1)
   counted_next f e =
-      below_more (λ r. get_or o (2 * r + 1) 0 ≡ length (row_in s o r)) n
-      (λ r h. other (2 * r + 1) (omega arith) ∙ f r h ∙ ap length (sym (old_row r h)))
-      (count_kept ∙ e ∙ ap length (sym new_row))
+      below_more (λ r. (get_or o r no_row).count ≡ length (row_in s o r)) n
+      (λ r h. ap (λ (x : Row). x.count) (other r h) ∙ f r h ∙ ap length (sym (old_row r h)))
+      (ap (λ (x : Row). x.count) kept_row ∙ e ∙ ap length (sym new_row))
 
 -- the n rows from `at` up to p are kept in o, which was d, if a canvas can have them
-pub record Keeping (s : List ℕ) (at p n : ℕ) (d o : List ℕ) : Type 0 where
+pub record Keeping (s : List ℕ) (at p n : ℕ) (d o : List Row) : Type 0 where
   pub long : length o ≡ length d
   pub same : n ≤ canvas_rows → rows_in s o n ++ up_to (texts_at s p) ≡ up_to (texts_at s at)
   pub counted : n ≤ canvas_rows → Counted s o n
 
-pub keeping_start : (s : List ℕ) (at : ℕ) (d : List ℕ) → Keeping s at at 0 d d
+pub keeping_start : (s : List ℕ) (at : ℕ) (d : List Row) → Keeping s at at 0 d d
 unfolding run
 keeping_start s at d = record { long = refl; same = λ k. refl; counted = λ k r h. absurd (omega arith) }
 
-module _ {s : List ℕ} {at p n : ℕ} {d o : List ℕ} (i : Keeping s at p n d o) where
+module _ {s : List ℕ} {at p n : ℕ} {d o : List Row} (i : Keeping s at p n d o) where
   -- the rows that are kept, and the others by what they are
   kept_then : {rs : List (List ℕ)} → up_to (texts_at s p) ≡ rs → n ≤ canvas_rows → rows_in s o n ++ rs ≡ up_to (texts_at s at)
   kept_then e k = ap (λ (x : List (List ℕ)). rows_in s o n ++ x) (sym e) ∙ i.same k
@@ -70,15 +61,15 @@ module _ {s : List ℕ} {at p n : ℕ} {d o : List ℕ} (i : Keeping s at p n d 
     pub keeping_none : count ≤ 0 → Keeping s at next n d o
     keeping_none z = record { long = i.long; same = kept_then (rows_none l z); counted = i.counted }
 
-    module _ (z : 0 < count) (room : 2 * canvas_rows ≤ length d) {o' : List ℕ} (wrote : n < canvas_rows → o' ≡ set (set o (2 * n) from) (2 * n + 1) count) (kept : length o' ≡ length o) where
-      fits : n + 1 ≤ canvas_rows → 2 * n + 1 < length o
+    module _ (z : 0 < count) (room : canvas_rows ≤ length d) {o' : List Row} (wrote : n < canvas_rows → o' ≡ set o n (record { from = from; count = count })) (kept : length o' ≡ length o) where
+      fits : n + 1 ≤ canvas_rows → n < length o
       fits k = omega (arith, i.long)
 
       one_row : n + 1 ≤ canvas_rows → rows_in s o' (n + 1) ≡ rows_in s o n ++ (codes_at s from count ∷ [])
-      one_row k = rows_next s o o' n from count (fits k) (wrote (omega arith))
+      one_row k = rows_next s o o' n (record { from = from; count = count }) (fits k) (wrote (omega arith))
 
       all-counted : n + 1 ≤ canvas_rows → Counted s o' (n + 1)
-      all-counted k = counted_next s o o' n from count (fits k) (wrote (omega arith)) (i.counted (omega arith)) (line-counted l)
+      all-counted k = counted_next s o o' n (record { from = from; count = count }) (fits k) (wrote (omega arith)) (i.counted (omega arith)) (line-counted l)
 
       pub keeping_more : (last ≡ ┘ → ⊥) → Keeping s at next (n + 1) d o'
       keeping_more q =

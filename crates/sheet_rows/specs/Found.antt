@@ -1,8 +1,9 @@
 -- What is found out about the sheet in some bytes: where it starts, its size, and where its rows stand.
-use Rattle.std.specs.Prelude.{List, ◌≡◌, ℕ, ◌+◌, ◌*◌, ◌≤◌, ◌<◌, length, get_or, drop}
+use Rattle.std.specs.Prelude.{List, ◌≡◌, ℕ, ◌≤◌, ◌<◌, length, get_or, drop}
 use Rattle.lists.specs.Run.{build}
 use Rattle.white_space.specs.Lines.{lines, texts, codes_at}
 use Rattle.utf8.specs.Utf8.{codes}
+use Rattle.sheet_rows.specs.declared.Row.{Row}
 use Rattle.sheet_rows.specs.Rows.{rows_at, up_to, widest}
 use Rattle.sheet_rows.specs.Sheet.{lines_through, behind, rest_of}
 
@@ -27,19 +28,23 @@ pub record Measured (s : List ℕ) (at rows columns end : ℕ) : Type 0 where
   pub inside : end ≤ length s
   pub rest : codes (drop end s) ≡ rest_at s at
 
--- row r of the bytes, of which d tells where it starts and how many code points it has: two numbers a row
-abbrev pub row_in : List ℕ → List ℕ → ℕ → List ℕ
-row_in s d r = codes_at s (get_or d (2 * r) 0) (get_or d (2 * r + 1) 0)
+-- what stands past the end of a list of rows
+abbrev pub no_row : Row
+no_row = record { from = 0; count = 0 }
+
+-- the code points of row r of the bytes
+abbrev pub row_in : List ℕ → List Row → ℕ → List ℕ
+row_in s d r = codes_at s (get_or d r no_row).from (get_or d r no_row).count
 
 -- the first n of these rows
-abbrev pub rows_in : List ℕ → List ℕ → ℕ → List (List ℕ)
+abbrev pub rows_in : List ℕ → List Row → ℕ → List (List ℕ)
 rows_in s d n = build n (row_in s d)
 
--- each of them has as many code points as d tells
-abbrev pub Counted : List ℕ → List ℕ → ℕ → Type 0
-Counted s d n = (r : ℕ) → r < n → get_or d (2 * r + 1) 0 ≡ length (row_in s d r)
+-- each of them has as many code points as is told
+abbrev pub Counted : List ℕ → List Row → ℕ → Type 0
+Counted s d n = (r : ℕ) → r < n → (get_or d r no_row).count ≡ length (row_in s d r)
 
 -- they are the rows of the sheet that starts at a place
-pub record Kept (s : List ℕ) (at : ℕ) (d : List ℕ) (n : ℕ) : Type 0 where
+pub record Kept (s : List ℕ) (at : ℕ) (d : List Row) (n : ℕ) : Type 0 where
   pub same : rows_in s d n ≡ up_to (texts_at s at)
   pub counted : Counted s d n

@@ -1,7 +1,8 @@
 // Where the rows of a sheet stand in its bytes, and how many and how long they are.
+// Places are indices into the whole text, as in `utf8`.
 #![tactic(auto)]
 
-ghost use Rattle.std.specs.Prelude.{◌≡◌, ◌+◌, ◌*◌, ◌≤◌, ◌<◌, max, length, set};
+ghost use Rattle.std.specs.Prelude.{◌≡◌, ◌≤◌, ◌<◌, length, set};
 ghost use Rattle.model.specs.Limits.{canvas_rows};
 ghost use Rattle.white_space.specs.Lines.{ValidTo};
 ghost use Rattle.utf8.specs.Utf8.{SameCheck};
@@ -36,25 +37,21 @@ pub fn sheet_start(s: &[u8], from: usize) -> SheetStart
     SheetStart { at, valid }
 }
 
-fn larger(a: usize, b: usize) -> usize
-    ensures { result ≡ max a b }
-{
-    if a < b { b } else { a }
+// A row of a sheet: where it starts and how many code points it has.
+#[derive(Clone, Copy)]
+pub struct Row {
+    pub from: usize,
+    pub count: usize,
 }
 
-// Two numbers for each row of the largest canvas: where the row starts and how many code points it has.
-pub const LINE_NUMBERS: usize = 2 * limits::CANVAS_ROWS;
-
-// Keeps the two numbers of row n, if a canvas can have that row.
-fn keep_line(lines: &mut [usize], n: usize, from: usize, count: usize)
-    requires { 2 * canvas_rows ≤ length lines.old }
-    ensures { n < canvas_rows → lines.new ≡ set (set lines.old (2 * n) from) (2 * n + 1) count }
+// Keeps row n, if a canvas can have that row.
+fn keep_row(rows: &mut [Row], n: usize, row: Row)
+    requires { canvas_rows ≤ length rows.old }
+    ensures { n < canvas_rows → rows.new ≡ set rows.old n row }
 {
-    if limits::CANVAS_ROWS <= n {
-        return;
+    if n < limits::CANVAS_ROWS {
+        rows[n] = row;
     }
-    lines[2 * n] = from;
-    lines[2 * n + 1] = count;
 }
 
 // How many rows a sheet has, how many code points the longest, where the text behind it starts, and up to where the bytes are valid.
@@ -66,11 +63,11 @@ pub struct Extent {
     pub valid: usize,
 }
 
-// Measures the sheet whose first line starts at a place, and keeps where its rows stand. The bytes before it are valid up to `valid`.
-pub fn measure(s: &[u8], at: usize, valid: usize, lines: &mut [usize]) -> Extent
-    requires { (at ≤ length s.now) × (at < length s.now → valid ≡ at) × (2 * canvas_rows ≤ length lines.old) }
+// Measures the sheet whose first line starts at a place, and keeps its rows. The bytes before it are valid up to `valid`.
+pub fn measure(s: &[u8], at: usize, valid: usize, kept: &mut [Row]) -> Extent
+    requires { (at ≤ length s.now) × (at < length s.now → valid ≡ at) × (canvas_rows ≤ length kept.old) }
     ensures measured { Measured s.now at result.rows result.columns result.end }
-    ensures kept { result.rows ≤ canvas_rows → Kept s.now at lines.new result.rows }
+    ensures kept { result.rows ≤ canvas_rows → Kept s.now at kept.new result.rows }
     ensures valid { SameCheck s.now valid result.valid }
 {
     let mut p = at;
@@ -85,9 +82,16 @@ pub fn measure(s: &[u8], at: usize, valid: usize, lines: &mut [usize]) -> Extent
         p = l.next;
         v = l.valid;
         if 0 < count {
-            keep_line(lines, rows, l.from, count);
+            keep_row(
+                kept,
+                rows,
+                Row {
+                    from: l.from,
+                    count,
+                },
+            );
             rows += 1;
-            columns = larger(columns, count);
+            columns = columns.max(count);
             if last == box_drawing::LIGHT_UP_AND_LEFT {
                 return Extent {
                     rows,

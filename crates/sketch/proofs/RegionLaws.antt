@@ -13,13 +13,16 @@ use Rattle.model.specs.Limits.{text_bytes}
 use Rattle.model.specs.declared.Rect.{Rect}
 use Rattle.rects.specs.Rects.{rect_at, rects_of}
 use Rattle.texts.specs.RegionText.{packed}
+use Rattle.cells.specs.Slices.{texts_of}
 use Rattle.cells.specs.Spans.{offset_at, length_at, text_at, texts_in}
+use Rattle.cells.specs.declared.texts.Texts.{Texts}
 use Rattle.texts.proofs.BuildLaws.{build-next, grows}
 use Rattle.texts.proofs.TextsLaws.{length_snoc}
 use Rattle.print.specs.Decimal.{Written}
 use Rattle.print.specs.Lines.{line_feed, count_line}
-use Rattle.print.proofs.WrittenLaws.{written_nil, written_then, written_within, written_as}
-use Rattle.sketch.specs.Drawings.{region_line, region_lines, regions_word, counted_lines, region_bytes, name_word, no_name_line, name_line, Texts, Regions}
+use Rattle.print.proofs.WrittenLaws.{written_nil, written_then, written_long, written_within, written_as}
+use Rattle.sketch.specs.Drawings.{region_line, region_lines, regions_word, counted_lines, region_bytes, name_word, no_name_line, name_line}
+use Rattle.sketch.specs.Printable.{Few, Regions}
 
 -- one region more
 lines_snoc : (rs : List Rect) (ts : List (List ℕ)) (r : Rect) (t : List ℕ) → length rs ≡ length ts
@@ -37,92 +40,81 @@ lines_next f g k =
     (lines_snoc (build k f) (build k g) (f k) (g k) (length_run f 0 k ∙ sym (length_run g 0 k)))
 
 -- the bytes of the first k texts
-abbrev size : List ℕ → List ℕ → ℕ → ℕ
-size bytes spans k = length (packed (texts_in bytes spans k))
+abbrev size : Texts → ℕ → ℕ
+size t k = length (packed (texts_in t.bytes.now t.spans.now k))
 
-size-next : (bytes spans : List ℕ) (k : ℕ) → size bytes spans (suc k) ≡ size bytes spans k + length (text_at bytes spans k)
-size-next bytes spans k = rw (build-next (text_at bytes spans) k) (length_snoc (texts_in bytes spans k) (text_at bytes spans k))
+size-next : (t : Texts) (k : ℕ) → size t (suc k) ≡ size t k + length (text_at t.bytes.now t.spans.now k)
+size-next t k =
+    let f = text_at t.bytes.now t.spans.now in
+    rw (build-next f k) (length_snoc (build k f) (f k))
 
-size_grows : (bytes spans : List ℕ) (k n : ℕ) → k ≤ n → size bytes spans k ≤ size bytes spans n
-size_grows bytes spans = grows (text_at bytes spans) (λ ts. length (packed ts)) (λ ts x. omega (arith, length_snoc ts x))
+size_grows : (t : Texts) (k n : ℕ) → k ≤ n → size t k ≤ size t n
+size_grows t = grows (text_at t.bytes.now t.spans.now) (λ ts. length (packed ts)) (λ ts x. omega (arith, length_snoc ts x))
 
-pub length-text : (bytes spans : List ℕ) (k : ℕ) → offset_at spans k + length_at spans k ≤ length bytes → length (text_at bytes spans k) ≡ length_at spans k
-length-text bytes spans k h =
-    length-take-le (length_at spans k) (drop (offset_at spans k) bytes) (omega (arith, length-drop (offset_at spans k) bytes))
+pub length-text : (t : Texts) (k : ℕ) → k < t.count → length (text_at t.bytes.now t.spans.now k) ≡ length_at t.spans.now k
+length-text t k h =
+    length-take-le (length_at t.spans.now k) (drop (offset_at t.spans.now k) t.bytes.now) (omega (arith, length-drop (offset_at t.spans.now k) t.bytes.now, t.held.inside k h))
 
 -- a text and a line feed
-pub written_text : (bytes spans : List ℕ) (k : ℕ) {t d o e : List ℕ} {at a r : ℕ} → offset_at spans k + length_at spans k ≤ length bytes → t ≡ text_at bytes spans k
-    → Written d o at t (length t) a → Written o e a (line_feed ∷ []) 1 r → at + length_at spans k ≤ length d
-    → Written d e at (text_at bytes spans k ++ (line_feed ∷ [])) (length_at spans k + 1) r
-written_text bytes spans k {t} {d} {o} {e} {at} {a} {r} h q u v l =
-    let s = length-text bytes spans k h in
-    let w : Written d o at (text_at bytes spans k) (length (text_at bytes spans k)) a = rw q at u in
-    written_within (written_then w v (omega (arith, w.short))) (omega arith)
+pub written_text : (t : Texts) (k : ℕ) {x d o e : List ℕ} → k < t.count → x ≡ text_at t.bytes.now t.spans.now k
+    → Written d o x (length x) → Written o e (line_feed ∷ []) 1
+    → Written d e (text_at t.bytes.now t.spans.now k ++ (line_feed ∷ [])) (length_at t.spans.now k + 1)
+written_text t k {x} {d} {o} h q u v =
+    let w : Written d o (text_at t.bytes.now t.spans.now k) (length (text_at t.bytes.now t.spans.now k)) = rw q at u in
+    written_within (written_then w v) (omega (arith, length-text t k h))
 
 -- a text is no longer than all texts together
-text-short : {bytes spans : List ℕ} {n : ℕ} (k : ℕ) → Texts bytes spans n → k < n → size bytes spans k + length_at spans k ≤ text_bytes
-text-short {bytes} {spans} {n} k t h =
-    omega (arith, size-next bytes spans k, size_grows bytes spans (suc k) n (omega arith), t.total, length-text bytes spans k (t.inside k h))
+pub text-short : (t : Texts) (k : ℕ) → Few t → k < t.count → size t k + length_at t.spans.now k ≤ text_bytes
+text-short t k few h =
+    omega (arith, size-next t k, size_grows t (suc k) t.count (omega arith), few, length-text t k h)
 
--- the first k regions are written behind the first `at` bytes of o₀
-pub record Listing (o₀ : List ℕ) (at : ℕ) (rects bytes spans : List ℕ) (n : ℕ) (o : List ℕ) (m k : ℕ) : Type 0 where
-  pub along : k ≤ n
-  pub room : at + 148480 ≤ length o₀
-  pub long : length o ≡ length o₀
-  pub written : Written o₀ o at (region_lines (rects_of rects k) (texts_in bytes spans k)) (85 * k + size bytes spans k) m
+-- the first k regions are written behind o₀
+pub record Listing (o₀ rects : List ℕ) (t : Texts) (o : List ℕ) (k : ℕ) : Type 0 where
+  pub along : k ≤ t.count
+  pub written : Written o₀ o (region_lines (rects_of rects k) (texts_in t.bytes.now t.spans.now k)) (85 * k + size t k)
 
-pub listing_start : (o : List ℕ) (at : ℕ) (rects bytes spans : List ℕ) (n : ℕ) → at + 148480 ≤ length o → Listing o at rects bytes spans n o at 0
+pub listing_start : (o rects : List ℕ) (t : Texts) → Listing o rects t o 0
 unfolding run region_lines packed
-listing_start o at rects bytes spans n h = record { along = omega arith; room = h; long = refl; written = written_nil o at }
+listing_start o rects t = record { along = omega arith; written = written_nil o }
 
-module _ {o₀ : List ℕ} {at : ℕ} {rects bytes spans : List ℕ} {n : ℕ} {o : List ℕ} {m k : ℕ} (q : Listing o₀ at rects bytes spans n o m k)
-    (g : Regions rects bytes spans n) (h : k < n) where
-  pub listing_room : (m + 85 + length_at spans k ≤ length o) × (k * 4 + 4 ≤ length rects) × (k * 2 + 2 ≤ length spans) × (offset_at spans k + length_at spans k ≤ length bytes)
-  listing_room = (
-    omega (arith, q.written.short, q.room, q.long, g.count, text-short k g.texts h),
-    omega (arith, g.four_each),
-    omega (arith, g.texts.two_each),
-    g.texts.inside k h,
-  )
+module _ {o₀ rects : List ℕ} {t : Texts} {o : List ℕ} {k : ℕ} (q : Listing o₀ rects t o k) (g : Regions rects t) (h : k < t.count) where
+  pub listing_room : {most : ℕ} → length o₀ + 148480 ≤ most → (length o + 85 + length_at t.spans.now k ≤ most) × (k * 4 + 4 ≤ length rects) × (k < t.count)
+  listing_room room = (omega (arith, written_long q.written, room, g.count, text-short t k g.few h), omega (arith, g.four_each), h)
 
-  pub listing_more : {e : List ℕ} {r : ℕ} → Written o e m (region_line (rect_at rects k) (text_at bytes spans k)) (85 + length_at spans k) r
-      → length e ≡ length o → Listing o₀ at rects bytes spans n e r (k + 1)
-  listing_more {e} {r} u l =
-      let z : region_lines (rects_of rects k) (texts_in bytes spans k) ++ region_line (rect_at rects k) (text_at bytes spans k) ≡ region_lines (rects_of rects (k + 1)) (texts_in bytes spans (k + 1)) =
-      rw (add-one k) (sym (lines_next (rect_at rects) (text_at bytes spans) k)) in
-      let a : size bytes spans (k + 1) ≡ size bytes spans k + length (text_at bytes spans k) = rw (add-one k) (size-next bytes spans k) in
-      let b = length-text bytes spans k (g.texts.inside k h) in
-      let v = written_then q.written u (omega (arith, q.written.short, q.room, g.count, text-short k g.texts h)) in
-      record { along = omega arith; room = q.room; long = l ∙ q.long; written = written_within (written_as v z) (omega arith) }
+  pub listing_more : {e : List ℕ} → Written o e (region_line (rect_at rects k) (text_at t.bytes.now t.spans.now k)) (85 + length_at t.spans.now k)
+      → Listing o₀ rects t e (k + 1)
+  listing_more {e} u =
+      let z : region_lines (rects_of rects k) (texts_in t.bytes.now t.spans.now k) ++ region_line (rect_at rects k) (text_at t.bytes.now t.spans.now k) ≡ region_lines (rects_of rects (k + 1)) (texts_in t.bytes.now t.spans.now (k + 1)) =
+      rw (add-one k) (sym (lines_next (rect_at rects) (text_at t.bytes.now t.spans.now) k)) in
+      let a : size t (k + 1) ≡ size t k + length (text_at t.bytes.now t.spans.now k) = rw (add-one k) (size-next t k) in
+      record { along = omega arith; written = written_within (written_as (written_then q.written u) z) (omega (arith, length-text t k h)) }
 
 -- all regions are written
-pub listing_end : {o₀ : List ℕ} {at : ℕ} {rects bytes spans : List ℕ} {n : ℕ} {o : List ℕ} {m k : ℕ} {d : List ℕ} {a : ℕ} → Listing o₀ at rects bytes spans n o m k
-    → Regions rects bytes spans n → n ≤ k → Written d o₀ a (count_line regions_word n) 29 at → at ≤ length d
-    → Written d o a (counted_lines (rects_of rects n) (texts_in bytes spans n)) region_bytes m
+pub listing_end : {o₀ rects : List ℕ} {t : Texts} {o d : List ℕ} {k : ℕ} → Listing o₀ rects t o k → Regions rects t → t.count ≤ k
+    → Written d o₀ (count_line regions_word t.count) 29 → Written d o (counted_lines (rects_of rects t.count) (texts_of t)) region_bytes
 unfolding counted_lines
-listing_end {o₀} {at} {rects} {bytes} {spans} {n} {o} {m} {k} {d} {a} q g h u l =
+listing_end {o₀} {rects} {t} {o} {d} {k} q g h u =
     let b = q.along in
-    let z : k ≡ n = omega arith in
-    let s : size bytes spans k ≤ text_bytes = rw z g.texts.total in
-    let x : count_line regions_word n ++ region_lines (rects_of rects k) (texts_in bytes spans k) ≡ count_line regions_word (length (rects_of rects n)) ++ region_lines (rects_of rects n) (texts_in bytes spans n) =
-    rw (z, length_run (rect_at rects) 0 n) in
-    written_within (written_as (written_then u q.written l) x) (omega (arith, g.count))
+    let z : k ≡ t.count = omega arith in
+    let s : size t k ≤ text_bytes = rw z g.few in
+    let x : count_line regions_word t.count ++ region_lines (rects_of rects k) (texts_in t.bytes.now t.spans.now k) ≡ count_line regions_word (length (rects_of rects t.count)) ++ region_lines (rects_of rects t.count) (texts_of t) =
+    rw (z, length_run (rect_at rects) 0 t.count) in
+    written_within (written_as (written_then u q.written) x) (omega (arith, g.count))
 
 -- the line of a name
 pub unnamed : (ts : List (List ℕ)) (named : Bool) → named ≡ false → no_name_line ≡ name_line named ts
 unfolding name_line
 unnamed ts named e = rw e
 
-pub no_regions : (bytes spans : List ℕ) (n : ℕ) (named : Bool) → n ≡ 0 → no_name_line ≡ name_line named (texts_in bytes spans n)
+pub no_regions : (t : Texts) (named : Bool) → t.count ≡ 0 → no_name_line ≡ name_line named (texts_of t)
 unfolding name_line run
-no_regions bytes spans n true e = rw e
-no_regions bytes spans n false e = refl
+no_regions t true e = rw e
+no_regions t false e = refl
 
-pub first-text : (bytes spans : List ℕ) (n : ℕ) (named : Bool) → named ≡ true → 0 < n → name_word ++ (text_at bytes spans 0 ++ (line_feed ∷ [])) ≡ name_line named (texts_in bytes spans n)
+first : (f : ℕ → List ℕ) (n : ℕ) → 0 < n → name_word ++ (f 0 ++ (line_feed ∷ [])) ≡ name_line true (build n f)
 unfolding name_line run
-first-text bytes spans zero named e h = absurd (omega arith)
-first-text bytes spans (suc n) named e h = rw e
+first f zero h = absurd (omega arith)
+first f (suc n) h = refl
 
-pub name-room : {bytes spans : List ℕ} {n : ℕ} → Texts bytes spans n → 0 < n
-    → (0 * 2 + 2 ≤ length spans) × (offset_at spans 0 + length_at spans 0 ≤ length bytes) × (length_at spans 0 ≤ text_bytes)
-name-room t h = (omega (arith, t.two_each), t.inside 0 h, omega (arith, text-short 0 t h))
+pub first-text : (t : Texts) (named : Bool) → named ≡ true → 0 < t.count → name_word ++ (text_at t.bytes.now t.spans.now 0 ++ (line_feed ∷ [])) ≡ name_line named (texts_of t)
+first-text t named e h = rw e (first (text_at t.bytes.now t.spans.now) t.count h)

@@ -1,10 +1,7 @@
 -- The lines of a drawing: its layers as the Rust prints them, its regions with their texts, its name.
-use Rattle.std.specs.Prelude.{Bool, true, false, List, [], ◌∷◌, ◌++◌, ℕ, zero, suc, ◌*◌, ◌+◌, ◌≤◌, ◌<◌, length}
+use Rattle.std.specs.Prelude.{Bool, true, false, List, [], ◌∷◌, ◌++◌, ℕ, zero, suc, length}
 use Rattle.lists.specs.Picture.{Picture}
-use Rattle.model.specs.Limits.{canvas_rows, canvas_columns, region_count, text_bytes}
 use Rattle.model.specs.declared.Rect.{Rect}
-use Rattle.texts.specs.RegionText.{packed}
-use Rattle.cells.specs.Spans.{offset_at, length_at, texts_in}
 use Rattle.utf8.specs.Utf8.{encode}
 use Rattle.print.specs.Decimal.{decimal}
 use Rattle.print.specs.Lines.{blank, line_feed, count_line}
@@ -48,12 +45,6 @@ layers_bytes = 246164
 -- room for each row of the widest canvas: 160 characters and a line feed
 abbrev pub row_bytes : ℕ
 row_bytes = 641
-
--- a layer that is printed
-pub record Layer (w h : ℕ) (s : List ℕ) : Type 0 where
-  pub columns : w ≤ canvas_columns
-  pub rows : h ≤ canvas_rows
-  pub size : h * w ≤ length s
 
 -- a number and a blank
 abbrev pub number_word : ℕ → List ℕ
@@ -102,15 +93,3 @@ name_line true (t ∷ ts) = name_word ++ (t ++ (line_feed ∷ []))
 -- room for it: the longest text
 abbrev pub name_bytes : ℕ
 name_bytes = 61446
-
--- the first n texts in slices: their bytes, and an offset and a length each
-pub record Texts (bytes spans : List ℕ) (n : ℕ) : Type 0 where
-  pub two_each : n * 2 ≤ length spans
-  pub inside : (k : ℕ) → k < n → offset_at spans k + length_at spans k ≤ length bytes
-  pub total : length (packed (texts_in bytes spans n)) ≤ text_bytes
-
--- the first n regions: their rects, four numbers each, and their texts
-pub record Regions (rects bytes spans : List ℕ) (n : ℕ) : Type 0 where
-  pub count : n ≤ region_count
-  pub four_each : n * 4 ≤ length rects
-  pub texts : Texts bytes spans n

@@ -1,141 +1,132 @@
-// The parts of a drawing as the judge of the Rust prints them, into a slice of bytes: layers, regions and the name.
+// The parts of a drawing as the judge of the Rust prints them: layers, regions and the name.
 #![tactic(auto)]
 
 ghost use Rattle.std.specs.Prelude.{[], ◌∷◌, ◌++◌, ◌+◌, ◌*◌, ◌≤◌, ◌<◌, length};
-ghost use Rattle.lists.specs.Picture.{canvas};
+ghost use Rattle.arrayvec.specs.ArrayVec.{array_vec_len};
+ghost use Rattle.model.specs.Layers.{picture_of};
+ghost use Rattle.model.specs.Limits.{canvas_columns};
 ghost use Rattle.rects.specs.Rects.{rect_at, rects_of};
-ghost use Rattle.cells.specs.Spans.{offset_at, length_at, text_at, texts_in};
+ghost use Rattle.cells.specs.Spans.{length_at, text_at};
+ghost use Rattle.cells.specs.Slices.{texts_of};
+ghost use Rattle.utf8.specs.Utf8.{encode};
 ghost use Rattle.print.specs.Decimal.{Written};
 ghost use Rattle.print.specs.Lines.{line_feed};
-ghost use Rattle.sketch.specs.Drawings.{row_to, layer_lines, layers_lines, layers_bytes, row_bytes, Layer, number_word, rect_words, region_line, counted_lines, region_bytes, name_line, name_bytes, Texts, Regions};
+ghost use Rattle.sketch.specs.Drawings.{row_to, layer_lines, layers_lines, layers_bytes, row_bytes, number_word, rect_words, region_line, counted_lines, region_bytes, name_line, name_bytes};
+ghost use Rattle.sketch.specs.Printable.{OnCanvas, SameSize, Few, Regions};
+
+use arrayvec::ArrayVec;
+use cells::texts::Texts;
+use model::layer::Layer;
+
+// A character in UTF-8.
+fn put_code<const N: usize>(out: &mut ArrayVec<u8, N>, c: u32)
+    requires { array_vec_len out.old + 4 ≤ N }
+    ensures { Written out.old.items out.new.items (encode c) 4 }
+{
+    let mut code = [0u8; 4];
+    let n = encoding::put_code(&mut code, 0, c);
+    print::put_word(out, &code[..n]);
+}
 
 // Row y of a layer, and a line feed.
-fn put_row(out: &mut [u8], at: usize, layer: &[u32], w: usize, h: usize, y: usize) -> usize
-    requires { (at + row_bytes ≤ length out.old) × (y < h) × Layer w h layer.now }
-    ensures { Written out.old out.new at (row_to (canvas w h layer.now) y w ++ (line_feed ∷ [])) row_bytes result }
+fn put_row<const N: usize>(out: &mut ArrayVec<u8, N>, layer: Layer, y: usize)
+    requires { (array_vec_len out.old + row_bytes ≤ N) × (y < layer.height) × (layer.width ≤ canvas_columns) }
+    ensures { Written out.old.items out.new.items (row_to (picture_of layer.entry) y layer.entry.width ++ (line_feed ∷ [])) row_bytes }
 {
-    let mut n = at;
-    for x in 0..w {
-        n = encoding::put_code(out, n, layer[y * w + x]);
+    for x in 0..layer.width {
+        put_code(out, layer.codes[y * layer.width + x]);
     }
-    print::put_word(out, n, b"\n")
+    out.push(b'\n');
 }
 
 // The rows of a layer behind its title.
-fn put_layer(out: &mut [u8], at: usize, title: &[u8], layer: &[u32], w: usize, h: usize) -> usize
-    requires { (at + length title.now + row_bytes * h ≤ length out.old) × Layer w h layer.now }
-    ensures { Written out.old out.new at (layer_lines title.now (canvas w h layer.now) w h) (length title.now + row_bytes * h) result }
+fn put_layer<const N: usize>(out: &mut ArrayVec<u8, N>, title: &[u8], layer: Layer)
+    requires { (array_vec_len out.old + length title.now + row_bytes * layer.height ≤ N) × (layer.width ≤ canvas_columns) }
+    ensures { Written out.old.items out.new.items (layer_lines title.now (picture_of layer.entry) layer.entry.width layer.entry.height) (length title.now + row_bytes * layer.entry.height) }
 {
-    let mut n = print::put_word(out, at, title);
-    for y in 0..h {
-        n = put_row(out, n, layer, w, h, y);
+    print::put_word(out, title);
+    for y in 0..layer.height {
+        put_row(out, layer, y);
     }
-    n
 }
 
 // The four layers.
-pub fn put_layers(
-    out: &mut [u8],
-    at: usize,
-    text: &[u32],
-    thins: &[u32],
-    bodies: &[u32],
-    grid: &[u32],
-    w: usize,
-    h: usize,
-) -> usize
-    requires { (at + layers_bytes ≤ length out.old) × Layer w h text.now × Layer w h thins.now × Layer w h bodies.now × Layer w h grid.now }
-    ensures { Written out.old out.new at (layers_lines (canvas w h text.now) (canvas w h thins.now) (canvas w h bodies.now) (canvas w h grid.now) w h) layers_bytes result }
+pub fn put_layers<const N: usize>(
+    out: &mut ArrayVec<u8, N>,
+    text: Layer,
+    thins: Layer,
+    bodies: Layer,
+    grid: Layer,
+)
+    requires { (array_vec_len out.old + layers_bytes ≤ N) × OnCanvas text × SameSize text thins × SameSize text bodies × SameSize text grid }
+    ensures { Written out.old.items out.new.items (layers_lines (picture_of text.entry) (picture_of thins.entry) (picture_of bodies.entry) (picture_of grid.entry) text.entry.width text.entry.height) layers_bytes }
 {
-    let a = put_layer(out, at, b"TEXT\n", text, w, h);
-    let b = put_layer(out, a, b"THIN\n", thins, w, h);
-    let c = put_layer(out, b, b"BODY\n", bodies, w, h);
-    put_layer(out, c, b"GRID\n", grid, w, h)
+    put_layer(out, b"TEXT\n", text);
+    put_layer(out, b"THIN\n", thins);
+    put_layer(out, b"BODY\n", bodies);
+    put_layer(out, b"GRID\n", grid);
 }
 
 // A number and a blank.
-fn put_spaced(out: &mut [u8], at: usize, n: usize) -> usize
-    requires { at + 21 ≤ length out.old }
-    ensures { Written out.old out.new at (number_word n) 21 result }
+fn put_spaced<const N: usize>(out: &mut ArrayVec<u8, N>, n: usize)
+    requires { array_vec_len out.old + 21 ≤ N }
+    ensures { Written out.old.items out.new.items (number_word n) 21 }
 {
-    let a = print::put_number(out, at, n as u64);
-    print::put_word(out, a, b" ")
+    print::put_number(out, n as u64);
+    out.push(b' ');
 }
 
 // Rect k, with a blank behind each number.
-fn put_rect(out: &mut [u8], at: usize, rects: &[u32], k: usize) -> usize
-    requires { (at + 84 ≤ length out.old) × (k * 4 + 4 ≤ length rects.now) }
-    ensures { Written out.old out.new at (rect_words (rect_at rects.now k)) 84 result }
+fn put_rect<const N: usize>(out: &mut ArrayVec<u8, N>, rects: &[u32], k: usize)
+    requires { (array_vec_len out.old + 84 ≤ N) × (k * 4 + 4 ≤ length rects.now) }
+    ensures { Written out.old.items out.new.items (rect_words (rect_at rects.now k)) 84 }
 {
     let r = rects::rect_at(rects, k);
-    let a = put_spaced(out, at, r.left);
-    let b = put_spaced(out, a, r.top);
-    let c = put_spaced(out, b, r.right);
-    put_spaced(out, c, r.bottom)
+    put_spaced(out, r.left);
+    put_spaced(out, r.top);
+    put_spaced(out, r.right);
+    put_spaced(out, r.bottom);
 }
 
 // Text k, and a line feed.
-fn put_text(out: &mut [u8], at: usize, bytes: &[u8], spans: &[u32], k: usize) -> usize
-    requires { (at + length_at spans.now k + 1 ≤ length out.old) × (k * 2 + 2 ≤ length spans.now) × (offset_at spans.now k + length_at spans.now k ≤ length bytes.now) }
-    ensures { Written out.old out.new at (text_at bytes.now spans.now k ++ (line_feed ∷ [])) (length_at spans.now k + 1) result }
+fn put_text<const N: usize>(out: &mut ArrayVec<u8, N>, texts: Texts, k: usize)
+    requires { (array_vec_len out.old + length_at texts.spans.now k + 1 ≤ N) × (k < texts.count) }
+    ensures { Written out.old.items out.new.items (text_at texts.entry.bytes.now texts.entry.spans.now k ++ (line_feed ∷ [])) (length_at texts.entry.spans.now k + 1) }
 {
-    let a = print::put_word(out, at, cells::text_at(bytes, spans, k));
-    print::put_word(out, a, b"\n")
+    print::put_word(out, texts.text(k));
+    out.push(b'\n');
 }
 
 // Region k: its rect and its text.
-fn put_region(
-    out: &mut [u8],
-    at: usize,
-    rects: &[u32],
-    bytes: &[u8],
-    spans: &[u32],
-    k: usize,
-) -> usize
-    requires { (at + 85 + length_at spans.now k ≤ length out.old) × (k * 4 + 4 ≤ length rects.now) × (k * 2 + 2 ≤ length spans.now) × (offset_at spans.now k + length_at spans.now k ≤ length bytes.now) }
-    ensures { Written out.old out.new at (region_line (rect_at rects.now k) (text_at bytes.now spans.now k)) (85 + length_at spans.now k) result }
+fn put_region<const N: usize>(out: &mut ArrayVec<u8, N>, rects: &[u32], texts: Texts, k: usize)
+    requires { (array_vec_len out.old + 85 + length_at texts.spans.now k ≤ N) × (k * 4 + 4 ≤ length rects.now) × (k < texts.count) }
+    ensures { Written out.old.items out.new.items (region_line (rect_at rects.now k) (text_at texts.entry.bytes.now texts.entry.spans.now k)) (85 + length_at texts.entry.spans.now k) }
 {
-    let a = put_rect(out, at, rects, k);
-    put_text(out, a, bytes, spans, k)
+    put_rect(out, rects, k);
+    put_text(out, texts, k);
 }
 
-// The first n regions behind their count.
-pub fn put_regions(
-    out: &mut [u8],
-    at: usize,
-    rects: &[u32],
-    bytes: &[u8],
-    spans: &[u32],
-    n: usize,
-) -> usize
-    requires { (at + region_bytes ≤ length out.old) × Regions rects.now bytes.now spans.now n }
-    ensures { Written out.old out.new at (counted_lines (rects_of rects.now n) (texts_in bytes.now spans.now n)) region_bytes result }
+// The regions behind their count.
+pub fn put_regions<const N: usize>(out: &mut ArrayVec<u8, N>, rects: &[u32], texts: Texts)
+    requires { (array_vec_len out.old + region_bytes ≤ N) × Regions rects.now texts }
+    ensures { Written out.old.items out.new.items (counted_lines (rects_of rects.now texts.entry.count) (texts_of texts.entry)) region_bytes }
 {
-    let mut m = print::put_count(out, at, b"regions ", n);
-    for k in 0..n {
-        m = put_region(out, m, rects, bytes, spans, k);
+    print::put_count(out, b"regions ", texts.count);
+    for k in 0..texts.count {
+        put_region(out, rects, texts, k);
     }
-    m
 }
 
+// `named` is a fact of the drawing.
 // The name of a table, which is the text of its first region.
-pub fn put_name(
-    out: &mut [u8],
-    at: usize,
-    bytes: &[u8],
-    spans: &[u32],
-    n: usize,
-    named: bool,
-) -> usize
-    requires { (at + name_bytes ≤ length out.old) × Texts bytes.now spans.now n }
-    ensures { Written out.old out.new at (name_line named (texts_in bytes.now spans.now n)) name_bytes result }
+pub fn put_name<const N: usize>(out: &mut ArrayVec<u8, N>, texts: Texts, named: bool)
+    requires { (array_vec_len out.old + name_bytes ≤ N) × Few texts }
+    ensures { Written out.old.items out.new.items (name_line named (texts_of texts.entry)) name_bytes }
 {
-    if !named {
-        return print::put_word(out, at, b"no name\n");
+    if !named || texts.count == 0 {
+        print::put_word(out, b"no name\n");
+        return;
     }
-    if n == 0 {
-        return print::put_word(out, at, b"no name\n");
-    }
-    let a = print::put_word(out, at, b"name ");
-    put_text(out, a, bytes, spans, 0)
+    print::put_word(out, b"name ");
+    put_text(out, texts, 0);
 }

@@ -9,7 +9,7 @@ use native.Mathlib.Numerals.{add-one}
 use native.Mathlib.Omega.{arith}
 use borrow.Author.Tests.{ltb-true, ltb-false}
 use lib.Dec.{ltb}
-use lib.ListN.{length, get_or, take, drop, set, length-append, length-drop}
+use lib.ListN.{length, get_or, take, drop, set, length-append, length-drop, length-set}
 use lib.Seq.{length-take-le, get_or-set_same, get_or-set_other, lt-length-set}
 use Rattle.lists.specs.Choose.{choose}
 use Rattle.lists.specs.Run.{run}
@@ -23,9 +23,10 @@ use Rattle.record.proofs.Texts.{length-packed}
 use Rattle.clauses.specs.Clauses.{present}
 use Rattle.clauses.specs.Spelled.{join_run}
 use Rattle.writer.specs.SlotTexts.{text_of_kind, slot_text}
-use Rattle.slot_runs.specs.Spelt.{part_of, PartIn, SlotPut, Room, Spelt}
+use Rattle.slot_runs.specs.Spelt.{part_of, PartIn, SlotPut, Room, Spelt, HasRoom, Appended}
 use Rattle.slot_runs.specs.declared.Filled.{Filled}
 use Rattle.slot_runs.specs.declared.Part.{Part}
+use Rattle.slot_runs.specs.declared.Slots.{Slots}
 
 -- one text more, and one list more
 pub run_more : {A : Type 0} (f : ℕ → A) (k n : ℕ) → run f k (n + 1) ≡ run f k n ++ (f (k + n) ∷ [])
@@ -85,6 +86,7 @@ module _ (d : List ℕ) (at k a n : ℕ) where
   pub slot_put : 3 * at + 3 ≤ length d → SlotPut d three at k a n
   slot_put h =
       record {
+        long = simp length-set refl;
         kind = before_two (3 * at) (omega arith) ∙ get_or-set_same d (3 * at) k 0 (omega arith);
         offset = before_three (3 * at + 1) (omega arith) ∙ get_or-set_same one (3 * at + 1) a 0 (lt-length-set d (3 * at) k (omega arith));
         size = get_or-set_same two (3 * at + 2) n 0 (lt-length-set one (3 * at + 1) a (lt-length-set d (3 * at) k (omega arith)));
@@ -104,10 +106,11 @@ same_text_lem bytes d o m i k h =
     rw (a, b, c)
 
 -- nothing
-pub spelt_none : (bytes d : List ℕ) (from : Filled) → Spelt bytes d d from from []
+spelt_none : (bytes d : List ℕ) (from : Filled) → Spelt bytes d d from from []
 unfolding run packed
 spelt_none bytes d from =
     record {
+      long = refl;
       texts = refl;
       slots = omega arith;
       total = omega arith;
@@ -117,13 +120,14 @@ spelt_none bytes d from =
     }
 
 -- one slot is one text
-pub spelt_one : {bytes d o : List ℕ} {from to : Filled} {k a n : ℕ} (t : Text) → SlotPut d o from.slot k a n
+spelt_one : {bytes d o : List ℕ} {from to : Filled} {k a n : ℕ} (t : Text) → SlotPut d o from.slot k a n
     → text_of_kind k (take n (drop a bytes)) ≡ t → to.slot ≡ from.slot + 1 → to.bytes ≡ from.bytes + length (bytes_of t)
     → a + n ≤ length bytes → length (bytes_of t) ≤ text_bytes → Spelt bytes d o from to (t ∷ [])
 unfolding run packed slot_text
 spelt_one {bytes} {d} {o} {from} {to} {k} {a} {n} t p e s b l m =
     let x : slot_text bytes o from.slot ≡ t = rw (p.kind, p.offset, p.size) e in
     record {
+      long = p.long;
       texts = ap (λ (u : Text). u ∷ []) x;
       slots = s;
       total = b ∙ ap (λ (u : List ℕ). from.bytes + length u) (sym (append-nil (bytes_of t)));
@@ -133,7 +137,7 @@ spelt_one {bytes} {d} {o} {from} {to} {k} {a} {n} t p e s b l m =
     }
 
 -- texts, and others behind them
-pub spelt_then : {bytes d o o' : List ℕ} {a b c : Filled} {ts us : List Text} → Spelt bytes d o a b ts → Spelt bytes o o' b c us → Spelt bytes d o' a c (ts ++ us)
+spelt_then : {bytes d o o' : List ℕ} {a b c : Filled} {ts us : List Text} → Spelt bytes d o a b ts → Spelt bytes o o' b c us → Spelt bytes d o' a c (ts ++ us)
 spelt_then {bytes} {d} {o} {o'} {a} {b} {c} {ts} {us} u v =
     let f = slot_text bytes o' in
     let n : length (ts ++ us) ≡ length ts + length us = length-append ts us in
@@ -141,6 +145,7 @@ spelt_then {bytes} {d} {o} {o'} {a} {b} {c} {ts} {us} u v =
     let x : run f a.slot (length ts) ≡ ts = run-same f (slot_text bytes o) a.slot (length ts) (λ i h l. same_text_lem bytes o o' b.slot i v.kept (omega (arith, u.slots))) ∙ u.texts in
     let y : run f (a.slot + length ts) (length us) ≡ us = ap (λ (k : ℕ). run f k (length us)) (sym u.slots) ∙ v.texts in
     record {
+      long = v.long ∙ u.long;
       texts = ap (run f a.slot) n ∙ run_then f a.slot (length ts) (length us) ∙ rw (x, y);
       slots = omega (arith, u.slots, v.slots);
       total = omega (arith, u.total, v.total);
@@ -156,25 +161,42 @@ spelt_then {bytes} {d} {o} {o'} {a} {b} {c} {ts} {us} u v =
           (λ e. v.inside i (ltb-false i b.slot e) l);
     }
 
+-- the same of slots with their fill
+appended_none : (bytes : List ℕ) (s : Slots) → Appended bytes s s []
+appended_none bytes s = record { same = refl; spelt = spelt_none bytes s.numbers.now s.filled }
+
+pub appended_one : {bytes : List ℕ} {s o : Slots} {k a n : ℕ} (t : Text) → SlotPut s.numbers.now o.numbers.now s.filled.slot k a n
+    → o.numbers.ghost_name ≡ s.numbers.ghost_name → text_of_kind k (take n (drop a bytes)) ≡ t → o.filled.slot ≡ s.filled.slot + 1
+    → o.filled.bytes ≡ s.filled.bytes + length (bytes_of t) → a + n ≤ length bytes → length (bytes_of t) ≤ text_bytes → Appended bytes s o (t ∷ [])
+appended_one t p g e f b l m = record { same = g; spelt = spelt_one t p e f b l m }
+
+pub appended_then : {bytes : List ℕ} {s o o' : Slots} {ts us : List Text} → Appended bytes s o ts → Appended bytes o o' us → Appended bytes s o' (ts ++ us)
+appended_then u v = record { same = v.same ∙ u.same; spelt = spelt_then u.spelt v.spelt }
+
 -- the same texts, by another name
-pub spelt_as : {bytes d o : List ℕ} {a b : Filled} {ts us : List Text} → Spelt bytes d o a b ts → ts ≡ us → Spelt bytes d o a b us
-spelt_as s e = rw e at s
+pub appended_as : {bytes : List ℕ} {s o : Slots} {ts us : List Text} → Appended bytes s o ts → ts ≡ us → Appended bytes s o us
+appended_as a e = rw e at a
 
 -- one text, by another name
-pub spelt_text : {bytes d o : List ℕ} {a b : Filled} {t u : Text} → Spelt bytes d o a b (t ∷ []) → t ≡ u → Spelt bytes d o a b (u ∷ [])
-spelt_text s e = spelt_as s (ap (λ (t : Text). t ∷ []) e)
+pub appended_text : {bytes : List ℕ} {s o : Slots} {t u : Text} → Appended bytes s o (t ∷ []) → t ≡ u → Appended bytes s o (u ∷ [])
+appended_text a e = appended_as a (ap (λ (t : Text). t ∷ []) e)
+
+-- what the slice holds once it is given back
+pub spelt_in : {bytes d : List ℕ} {s o : Slots} {ts : List Text} → Appended bytes s o ts → d ≡ o.numbers.now → Spelt bytes s.numbers.now d s.filled o.filled ts
+spelt_in a e = rw e a.spelt
 
 -- a text that stands there by a test
 pub optional_on : {t : Bool} {v w : List ℕ} (u : Text) → v ≡ w → t ≡ true → present v ≡ choose t (present w) u
 optional_on {t} {v} {w} u e h = ap present e ∙ sym (choose_on t (present w) u h)
 
 -- the room behind m texts
-pub room_next : {bytes d o : List ℕ} {a b : Filled} {ts : List Text} {k m n : ℕ} → Room a k d → Spelt bytes d o a b ts → length ts ≡ m → m + n ≤ k → length o ≡ length d → Room b n o
-room_next r s e h l =
+pub room_next : {bytes : List ℕ} {s o : Slots} {ts : List Text} {k m n : ℕ} → HasRoom s k → Appended bytes s o ts → length ts ≡ m → m + n ≤ k → HasRoom o n
+room_next r a e h =
+    let p = a.spelt in
     record {
-      slots = omega (arith, r.slots, s.slots);
-      few = omega (arith, r.few, s.slots);
-      light = s.light r.light;
+      slots = omega (arith, r.slots, p.slots, p.long);
+      few = omega (arith, r.few, p.slots);
+      light = p.light r.light;
     }
 
 -- less room
@@ -182,38 +204,35 @@ pub room_less : {a : Filled} {d : List ℕ} {k n : ℕ} → Room a k d → n ≤
 room_less r h = record { slots = omega (arith, r.slots); few = omega (arith, r.few); light = r.light }
 
 -- i of n turns are done, of m texts each: they are `far i`
-pub record Turning (bytes d₀ : List ℕ) (from : Filled) (far : ℕ → List Text) (m n : ℕ) (d : List ℕ) (to : Filled) (i : ℕ) : Type 0 where
+pub record Turning (bytes : List ℕ) (start : Slots) (far : ℕ → List Text) (m n : ℕ) (s : Slots) (i : ℕ) : Type 0 where
   pub along : i ≤ n
-  pub long : length d ≡ length d₀
-  pub room : Room to ((n - i) * m) d
-  pub spelt : Spelt bytes d₀ d from to (far i)
+  pub room : HasRoom s ((n - i) * m)
+  pub put : Appended bytes start s (far i)
 
-pub turning_start : (bytes d : List ℕ) (from : Filled) (far : ℕ → List Text) (m n k : ℕ) → Room from k d → n * m ≤ k → far 0 ≡ [] → Turning bytes d from far m n d from 0
-turning_start bytes d from far m n k r h e =
+pub turning_start : (bytes : List ℕ) (s : Slots) (far : ℕ → List Text) (m n k : ℕ) → HasRoom s k → n * m ≤ k → far 0 ≡ [] → Turning bytes s far m n s 0
+turning_start bytes s far m n k r h e =
     let z : n - 0 ≡ n = omega arith in
     record {
       along = omega arith;
-      long = refl;
       room = rw z (room_less r h);
-      spelt = rw e (spelt_none bytes d from);
+      put = rw e (appended_none bytes s);
     }
 
-module _ {bytes d₀ : List ℕ} {from : Filled} {far : ℕ → List Text} {m n : ℕ} {d : List ℕ} {to : Filled} {i : ℕ} (t : Turning bytes d₀ from far m n d to i) where
+module _ {bytes : List ℕ} {start : Slots} {far : ℕ → List Text} {m n : ℕ} {s : Slots} {i : ℕ} (t : Turning bytes start far m n s i) where
   left : i < n → (n - i) * m ≡ (n - (i + 1)) * m + m
   left h = let e : n - i ≡ suc (n - (i + 1)) = omega arith in rw e (suc-mul (n - (i + 1)) m)
 
-  pub turning_room : i < n → Room to m d
+  pub turning_room : i < n → HasRoom s m
   turning_room h = room_less t.room (omega (arith, left h))
 
-  pub turning_more : {e : List ℕ} {next : Filled} {us : List Text} → i < n → Spelt bytes d e to next us → length us ≡ m → far (i + 1) ≡ far i ++ us
-      → length e ≡ length d → Turning bytes d₀ from far m n e next (i + 1)
-  turning_more h s l f k =
+  pub turning_more : {next : Slots} {us : List Text} → i < n → Appended bytes s next us → length us ≡ m → far (i + 1) ≡ far i ++ us
+      → Turning bytes start far m n next (i + 1)
+  turning_more h a l f =
       record {
         along = omega arith;
-        long = k ∙ t.long;
-        room = room_next t.room s l (omega (arith, left h)) k;
-        spelt = spelt_as (spelt_then t.spelt s) (sym f);
+        room = room_next t.room a l (omega (arith, left h));
+        put = appended_as (appended_then t.put a) (sym f);
       }
 
-  pub turning_end : n ≤ i → Spelt bytes d₀ d from to (far n)
-  turning_end h = let a = t.along in let z : i ≡ n = omega arith in spelt_as t.spelt (ap far z)
+  pub turning_end : n ≤ i → Appended bytes start s (far n)
+  turning_end h = let a = t.along in let z : i ≡ n = omega arith in appended_as t.put (ap far z)

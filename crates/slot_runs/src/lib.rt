@@ -3,15 +3,15 @@
 
 ghost use Rattle.std.specs.Prelude.{List, [], ◌∷◌, ◌≡◌, ℕ, ◌+◌, ◌*◌, ◌≤◌, ◌<◌, length};
 ghost use Rattle.model.specs.Limits.{text_bytes};
-ghost use Rattle.cells.specs.Plane.{plane_in};
-ghost use Rattle.cells.specs.Spans.{text_in};
+ghost use Rattle.cells.specs.Slices.{plane_of, text_of};
 ghost use Rattle.record.specs.Slots.{slot_limit};
 ghost use Rattle.clauses.specs.Clauses.{present};
 ghost use Rattle.clauses.specs.Spelled.{cell_text, row_texts};
 ghost use Rattle.clauses.specs.Stated.{allowed_text, default_text};
 ghost use Rattle.values.specs.Values.{values_of};
-ghost use Rattle.slot_runs.specs.Spelt.{Texts, part_of, PartIn, SlotPut, Room, Spelt};
+ghost use Rattle.slot_runs.specs.Spelt.{part_of, PartIn, SlotPut, HasRoom, Appended};
 
+use cells::text_plane::TextPlane;
 use record::{ABSENT, PART};
 use writer::VALUES;
 
@@ -39,106 +39,106 @@ pub fn put_slot(slots: &mut [u32], at: usize, kind: u32, offset: u32, size: u32)
     slots[3 * at + 2] = size;
 }
 
-// A text that is absent.
-pub fn put_absent(slots: &mut [u32], from: Filled) -> Filled
-    requires { Room from 1 slots.old }
-    ensures { (bytes : List ℕ) → Spelt bytes slots.old slots.new from result (None ∷ []) }
-{
-    put_slot(slots, from.slot, ABSENT, 0, 0);
-    Filled {
-        slot: from.slot + 1,
-        bytes: from.bytes,
-    }
+// The slots of a work slice, and up to where they are filled.
+#[derive(Drop)]
+pub struct Slots<'a> {
+    pub numbers: &'a mut [u32],
+    pub filled: Filled,
 }
 
-// A text that is a part.
-pub fn put_part(slots: &mut [u32], from: Filled, p: Part) -> Filled
-    requires { Room from 1 slots.old }
-    ensures { (bytes : List ℕ) → PartIn p bytes → Spelt bytes slots.old slots.new from result (Some (part_of bytes p) ∷ []) }
-{
-    put_slot(slots, from.slot, PART, p.offset, p.size);
-    Filled {
-        slot: from.slot + 1,
-        bytes: from.bytes + p.size as usize,
+impl<'a> Slots<'a> {
+    // A text that is absent.
+    pub fn put_absent(&mut self)
+        requires { HasRoom self.old 1 }
+        ensures { (bytes : List ℕ) → Appended bytes self.old self.new (None ∷ []) }
+    {
+        put_slot(self.numbers, self.filled.slot, ABSENT, 0, 0);
+        self.filled = Filled {
+            slot: self.filled.slot + 1,
+            bytes: self.filled.bytes,
+        };
     }
-}
 
-// A text that is a part, and absent when that is empty.
-pub fn put_optional(slots: &mut [u32], from: Filled, p: Part) -> Filled
-    requires { Room from 1 slots.old }
-    ensures { (bytes : List ℕ) → PartIn p bytes → Spelt bytes slots.old slots.new from result (present (part_of bytes p) ∷ []) }
-{
-    if p.size == 0 {
-        return put_absent(slots, from);
+    // A text that is a part.
+    pub fn put_part(&mut self, p: Part)
+        requires { HasRoom self.old 1 }
+        ensures { (bytes : List ℕ) → PartIn p bytes → Appended bytes self.old self.new (Some (part_of bytes p) ∷ []) }
+    {
+        put_slot(self.numbers, self.filled.slot, PART, p.offset, p.size);
+        self.filled = Filled {
+            slot: self.filled.slot + 1,
+            bytes: self.filled.bytes + p.size as usize,
+        };
     }
-    put_part(slots, from, p)
-}
 
-// Two texts that are absent.
-pub fn put_no_values(slots: &mut [u32], from: Filled) -> Filled
-    requires { Room from 2 slots.old }
-    ensures { (bytes : List ℕ) → Spelt bytes slots.old slots.new from result (None ∷ None ∷ []) }
-{
-    let a = put_absent(slots, from);
-    put_absent(slots, a)
-}
-
-// The allowed values of a part that is rewritten to so many bytes.
-fn put_rewritten(slots: &mut [u32], from: Filled, p: Part, size: usize) -> Filled
-    requires { Room from 1 slots.old × (size ≤ text_bytes) }
-    ensures { (bytes : List ℕ) → PartIn p bytes → size ≡ length (values_of (part_of bytes p)).allowed → Spelt bytes slots.old slots.new from result (Some (values_of (part_of bytes p)).allowed ∷ []) }
-{
-    put_slot(slots, from.slot, VALUES, p.offset, p.size);
-    Filled {
-        slot: from.slot + 1,
-        bytes: from.bytes + size,
-    }
-}
-
-// The allowed values of a part and their default, by the value split.
-pub fn put_values(bytes: &[u8], slots: &mut [u32], from: Filled, p: Part) -> Filled
-    requires { Room from 2 slots.old × PartIn p bytes.now }
-    ensures { Spelt bytes.now slots.old slots.new from result (allowed_text (present (part_of bytes.now p)) ∷ default_text (present (part_of bytes.now p)) ∷ []) }
-{
-    if p.size == 0 {
-        return put_no_values(slots, from);
-    }
-    let start = p.offset as usize;
-    let end = start + p.size as usize;
-    match values::measure_values(&bytes[start..end]) {
-        None => {
-            let a = put_part(slots, from, p);
-            put_absent(slots, a)
+    // A text that is a part, and absent when that is empty.
+    pub fn put_optional(&mut self, p: Part)
+        requires { HasRoom self.old 1 }
+        ensures { (bytes : List ℕ) → PartIn p bytes → Appended bytes self.old self.new (present (part_of bytes p) ∷ []) }
+    {
+        if p.size == 0 {
+            self.put_absent();
+        } else {
+            self.put_part(p);
         }
-        Some(m) => {
-            let r = put_rewritten(slots, from, p, m.bytes);
-            put_part(
-                slots,
-                r,
-                Part {
+    }
+
+    // Two texts that are absent.
+    pub fn put_no_values(&mut self)
+        requires { HasRoom self.old 2 }
+        ensures { (bytes : List ℕ) → Appended bytes self.old self.new (None ∷ None ∷ []) }
+    {
+        self.put_absent();
+        self.put_absent();
+    }
+
+    // The allowed values of a part that is rewritten to so many bytes.
+    fn put_rewritten(&mut self, p: Part, size: usize)
+        requires { HasRoom self.old 1 × (size ≤ text_bytes) }
+        ensures { (bytes : List ℕ) → PartIn p bytes → size ≡ length (values_of (part_of bytes p)).allowed → Appended bytes self.old self.new (Some (values_of (part_of bytes p)).allowed ∷ []) }
+    {
+        put_slot(self.numbers, self.filled.slot, VALUES, p.offset, p.size);
+        self.filled = Filled {
+            slot: self.filled.slot + 1,
+            bytes: self.filled.bytes + size,
+        };
+    }
+
+    // The allowed values of a part and their default, by the value split.
+    pub fn put_values(&mut self, bytes: &[u8], p: Part)
+        requires { HasRoom self.old 2 × PartIn p bytes.now }
+        ensures { Appended bytes.now self.old self.new (allowed_text (present (part_of bytes.now p)) ∷ default_text (present (part_of bytes.now p)) ∷ []) }
+    {
+        if p.size == 0 {
+            self.put_no_values();
+            return;
+        }
+        let start = p.offset as usize;
+        let end = start + p.size as usize;
+        match values::measure_values(&bytes[start..end]) {
+            None => {
+                self.put_part(p);
+                self.put_absent();
+            }
+            Some(m) => {
+                self.put_rewritten(p, m.bytes);
+                self.put_part(Part {
                     offset: (start + m.from) as u32,
                     size: (m.to - m.from) as u32,
-                },
-            )
+                });
+            }
         }
     }
 }
 
 // The part that is a cell's text; an empty one where it cannot be read.
-pub fn part_at(
-    plane: &[u32],
-    rows: usize,
-    bytes: &[u8],
-    spans: &[u32],
-    count: usize,
-    y: usize,
-    x: usize,
-) -> Part
-    requires { Texts plane.now rows bytes.now spans.now count }
-    ensures text { part_of bytes.now result ≡ cell_text (text_in bytes.now spans.now count) (plane_in plane.now rows) y x }
-    ensures inside { PartIn result bytes.now }
+pub fn part_at(sheet: TextPlane, y: usize, x: usize) -> Part
+    requires { length sheet.texts.bytes.now ≤ text_bytes }
+    ensures text { part_of sheet.entry.texts.bytes.now result ≡ cell_text (text_of sheet.entry.texts) (plane_of sheet.entry.plane) y x }
+    ensures inside { PartIn result sheet.entry.texts.bytes.now }
 {
-    match cell_tests::region_at(plane, rows, y, x) {
+    let spans = sheet.texts.spans;
+    match cell_tests::region_at(sheet.plane, y, x) {
         Ok(k) => Part {
             offset: spans[k * 2],
             size: spans[k * 2 + 1],
@@ -148,28 +148,12 @@ pub fn part_at(
 }
 
 // The texts of n cells of row y from column x on.
-pub fn put_row(
-    plane: &[u32],
-    rows: usize,
-    bytes: &[u8],
-    spans: &[u32],
-    count: usize,
-    slots: &mut [u32],
-    from: Filled,
-    y: usize,
-    x: usize,
-    n: usize,
-) -> Filled
-    requires { Texts plane.now rows bytes.now spans.now count × Room from n slots.old × (x + n ≤ 128) }
-    ensures { Spelt bytes.now slots.old slots.new from result (row_texts (text_in bytes.now spans.now count) (plane_in plane.now rows) y x n) }
+pub fn put_row(sheet: TextPlane, out: &mut Slots, y: usize, x: usize, n: usize)
+    requires { (length sheet.texts.bytes.now ≤ text_bytes) × HasRoom out.old n × (x + n ≤ 128) }
+    ensures { Appended sheet.entry.texts.bytes.now out.old out.new (row_texts (text_of sheet.entry.texts) (plane_of sheet.entry.plane) y x n) }
 {
-    let mut slot = from.slot;
-    let mut used = from.bytes;
     for i in 0..n {
-        let p = part_at(plane, rows, bytes, spans, count, y, x + i);
-        let r = put_part(slots, Filled { slot, bytes: used }, p);
-        slot = r.slot;
-        used = r.bytes;
+        let p = part_at(sheet, y, x + i);
+        out.put_part(p);
     }
-    Filled { slot, bytes: used }
 }

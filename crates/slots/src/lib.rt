@@ -1,327 +1,172 @@
 // The texts of an upright sheet as slots of a work slice, three numbers each, in record order.
 #![tactic(auto)]
 
-ghost use Rattle.std.specs.Prelude.{[], ◌∷◌, ◌≡◌, ◌+◌, ◌-◌, ◌*◌, ◌≤◌, ◌<◌, length};
+ghost use Rattle.std.specs.Prelude.{List, ℕ, [], ◌∷◌, ◌≡◌, ◌+◌, ◌-◌, ◌*◌, ◌≤◌, ◌<◌, length};
 ghost use Rattle.lists.specs.Choose.{choose};
-ghost use Rattle.model.specs.Limits.{plane_cells};
-ghost use Rattle.cells.specs.Plane.{plane_in};
-ghost use Rattle.cells.specs.Spans.{text_in};
+ghost use Rattle.model.specs.Limits.{plane_cells, text_bytes};
+ghost use Rattle.cells.specs.Slices.{plane_of, text_of};
 ghost use Rattle.record.specs.Slots.{slot_limit};
 ghost use Rattle.clauses.specs.Spelled.{join_run, input_text, label_text, name_text, output_text, note_texts, entry_texts, spelled};
 ghost use Rattle.clauses.specs.Told.{ShapeFits};
-ghost use Rattle.slot_runs.specs.Spelt.{Texts, Room, Spelt};
+ghost use Rattle.slot_runs.specs.Spelt.{Spelt, HasRoom, Appended};
+ghost use Rattle.slots.specs.ShapedTexts.{bytes_of, on_sheet};
+ghost use Rattle.slots.specs.Steps.{Steps};
 
+use crate::shaped_sheet::ShapedSheet;
+use cells::text_plane::TextPlane;
 use clauses::Shape;
-use slot_runs::Filled;
+use slot_runs::{Filled, Slots};
 
-// Where rows above h are counted: h - k, or 0.
-fn above(h: usize, k: usize) -> usize
-    ensures { result ≡ h - k }
-{
-    if h < k {
-        return 0;
-    }
-    h - k
-}
+mod shaped_sheet;
 
 // Input i: its expression and its allowed values.
-fn put_input(
-    plane: &[u32],
-    rows: usize,
-    bytes: &[u8],
-    spans: &[u32],
-    count: usize,
-    slots: &mut [u32],
-    from: Filled,
-    s: Shape,
-    i: usize,
-) -> Filled
-    requires { Texts plane.now rows bytes.now spans.now count × Room from 2 slots.old }
-    ensures { Spelt bytes.now slots.old slots.new from result (input_text (text_in bytes.now spans.now count) (plane_in plane.now rows) s i) }
+fn put_input(shaped: ShapedSheet, out: &mut Slots, i: usize)
+    requires { HasRoom out.old 2 }
+    ensures { Appended (bytes_of shaped.entry) out.old out.new (on_sheet input_text shaped.entry i) }
 {
-    let p = slot_runs::part_at(plane, rows, bytes, spans, count, 0, i);
-    let a = slot_runs::put_part(slots, from, p);
+    let s = shaped.shape;
+    let p = slot_runs::part_at(shaped.sheet, 0, i);
+    out.put_part(p);
     if s.allowed {
-        let v = slot_runs::part_at(plane, rows, bytes, spans, count, above(s.height, 1), i);
-        return slot_runs::put_optional(slots, a, v);
+        let v = slot_runs::part_at(shaped.sheet, s.height.saturating_sub(1), i);
+        out.put_optional(v);
+    } else {
+        out.put_absent();
     }
-    slot_runs::put_absent(slots, a)
+}
+
+// The texts of n steps, as many for each.
+fn put_each<F: Fn(ShapedSheet, &mut Slots, usize)>(
+    shaped: ShapedSheet,
+    out: &mut Slots,
+    n: usize,
+    put: F,
+)
+    ghost steps: { Steps }
+    requires room { HasRoom out.old (n * steps.size) }
+    requires ready { (s : _) (i : ℕ) → i < n → HasRoom s.now steps.size → F.pre put shaped s i }
+    requires puts { (s : _) (i : ℕ) (t : _) → i < n → F.post put shaped s i tt t → Appended (bytes_of shaped) s.now t.now (steps.texts i) }
+    ensures { Appended (bytes_of shaped.entry) out.old out.new (join_run steps.texts 0 n) }
+{
+    for i in 0..n {
+        put(shaped, out, i);
+    }
 }
 
 // All inputs.
-fn put_inputs(
-    plane: &[u32],
-    rows: usize,
-    bytes: &[u8],
-    spans: &[u32],
-    count: usize,
-    slots: &mut [u32],
-    from: Filled,
-    s: Shape,
-) -> Filled
-    requires { Texts plane.now rows bytes.now spans.now count × Room from (2 * s.inputs) slots.old }
-    ensures { Spelt bytes.now slots.old slots.new from result (join_run (input_text (text_in bytes.now spans.now count) (plane_in plane.now rows) s) 0 s.inputs) }
+fn put_inputs(shaped: ShapedSheet, out: &mut Slots)
+    requires { HasRoom out.old (2 * shaped.shape.inputs) }
+    ensures { Appended (bytes_of shaped.entry) out.old out.new (join_run (on_sheet input_text shaped.entry) 0 shaped.entry.shape.inputs) }
 {
-    let mut slot = from.slot;
-    let mut used = from.bytes;
-    for i in 0..s.inputs {
-        let r = put_input(
-            plane,
-            rows,
-            bytes,
-            spans,
-            count,
-            slots,
-            Filled { slot, bytes: used },
-            s,
-            i,
-        );
-        slot = r.slot;
-        used = r.bytes;
-    }
-    Filled { slot, bytes: used }
+    put_each(shaped, out, shaped.shape.inputs, put_input);
 }
 
 // The label of the outputs.
-fn put_label(
-    plane: &[u32],
-    rows: usize,
-    bytes: &[u8],
-    spans: &[u32],
-    count: usize,
-    slots: &mut [u32],
-    from: Filled,
-    s: Shape,
-) -> Filled
-    requires { Texts plane.now rows bytes.now spans.now count × Room from 1 slots.old × (s.inputs < plane_cells) }
-    ensures { Spelt bytes.now slots.old slots.new from result (label_text (text_in bytes.now spans.now count) (plane_in plane.now rows) s ∷ []) }
+fn put_label(shaped: ShapedSheet, out: &mut Slots)
+    requires { HasRoom out.old 1 × (shaped.shape.inputs < plane_cells) }
+    ensures { Appended (bytes_of shaped.entry) out.old out.new (on_sheet label_text shaped.entry ∷ []) }
 {
-    let l = s.layout;
-    if l.labelled {
-        let label = slot_runs::part_at(plane, rows, bytes, spans, count, 0, s.inputs + 1);
-        return slot_runs::put_optional(slots, from, label);
+    let s = shaped.shape;
+    if s.layout.labelled {
+        let label = slot_runs::part_at(shaped.sheet, 0, s.inputs + 1);
+        out.put_optional(label);
+    } else {
+        out.put_absent();
     }
-    slot_runs::put_absent(slots, from)
 }
 
 // The row of the component names: above the allowed values, where there are any.
 fn names_row(s: Shape) -> usize
     ensures { result ≡ choose s.layout.valued (s.height - 2) (s.height - 1) }
 {
-    let l = s.layout;
-    if l.valued {
-        return above(s.height, 2);
+    if s.layout.valued {
+        return s.height.saturating_sub(2);
     }
-    above(s.height, 1)
+    s.height.saturating_sub(1)
 }
 
 // The component name of output j.
-fn put_name(
-    plane: &[u32],
-    rows: usize,
-    bytes: &[u8],
-    spans: &[u32],
-    count: usize,
-    slots: &mut [u32],
-    from: Filled,
-    s: Shape,
-    j: usize,
-) -> Filled
-    requires { Texts plane.now rows bytes.now spans.now count × Room from 1 slots.old × (s.inputs + 1 + j < plane_cells) }
-    ensures { Spelt bytes.now slots.old slots.new from result (name_text (text_in bytes.now spans.now count) (plane_in plane.now rows) s j ∷ []) }
+fn put_name(shaped: ShapedSheet, out: &mut Slots, j: usize)
+    requires { HasRoom out.old 1 × (shaped.shape.inputs + 1 + j < plane_cells) }
+    ensures { Appended (bytes_of shaped.entry) out.old out.new (on_sheet name_text shaped.entry j ∷ []) }
 {
-    let l = s.layout;
-    if l.named {
+    let s = shaped.shape;
+    if s.layout.named {
         let x = s.inputs + 1 + j;
-        let p = slot_runs::part_at(plane, rows, bytes, spans, count, names_row(s), x);
-        return slot_runs::put_optional(slots, from, p);
+        let p = slot_runs::part_at(shaped.sheet, names_row(s), x);
+        out.put_optional(p);
+    } else {
+        put_label(shaped, out);
     }
-    put_label(plane, rows, bytes, spans, count, slots, from, s)
 }
 
 // Output j: its component name, its allowed values and its default.
-fn put_output(
-    plane: &[u32],
-    rows: usize,
-    bytes: &[u8],
-    spans: &[u32],
-    count: usize,
-    slots: &mut [u32],
-    from: Filled,
-    s: Shape,
-    j: usize,
-) -> Filled
-    requires { Texts plane.now rows bytes.now spans.now count × Room from 3 slots.old × (s.inputs + 1 + j < plane_cells) }
-    ensures { Spelt bytes.now slots.old slots.new from result (output_text (text_in bytes.now spans.now count) (plane_in plane.now rows) s j) }
+fn put_output(shaped: ShapedSheet, out: &mut Slots, j: usize)
+    requires { HasRoom out.old 3 × (shaped.shape.inputs + 1 + j < plane_cells) }
+    ensures { Appended (bytes_of shaped.entry) out.old out.new (on_sheet output_text shaped.entry j) }
 {
-    let a = put_name(plane, rows, bytes, spans, count, slots, from, s, j);
-    let l = s.layout;
-    if l.valued {
-        let p = slot_runs::part_at(
-            plane,
-            rows,
-            bytes,
-            spans,
-            count,
-            above(s.height, 1),
-            s.inputs + 1 + j,
-        );
-        return slot_runs::put_values(bytes, slots, a, p);
+    put_name(shaped, out, j);
+    let s = shaped.shape;
+    if s.layout.valued {
+        let p = slot_runs::part_at(shaped.sheet, s.height.saturating_sub(1), s.inputs + 1 + j);
+        out.put_values(shaped.sheet.texts.bytes, p);
+    } else {
+        out.put_no_values();
     }
-    slot_runs::put_no_values(slots, a)
 }
 
 // All outputs.
-fn put_outputs(
-    plane: &[u32],
-    rows: usize,
-    bytes: &[u8],
-    spans: &[u32],
-    count: usize,
-    slots: &mut [u32],
-    from: Filled,
-    s: Shape,
-) -> Filled
-    requires { Texts plane.now rows bytes.now spans.now count × Room from (3 * s.outputs) slots.old × (s.inputs + 1 + s.outputs ≤ plane_cells) }
-    ensures { Spelt bytes.now slots.old slots.new from result (join_run (output_text (text_in bytes.now spans.now count) (plane_in plane.now rows) s) 0 s.outputs) }
+fn put_outputs(shaped: ShapedSheet, out: &mut Slots)
+    requires { HasRoom out.old (3 * shaped.shape.outputs) × (shaped.shape.inputs + 1 + shaped.shape.outputs ≤ plane_cells) }
+    ensures { Appended (bytes_of shaped.entry) out.old out.new (join_run (on_sheet output_text shaped.entry) 0 shaped.entry.shape.outputs) }
 {
-    let mut slot = from.slot;
-    let mut used = from.bytes;
-    for j in 0..s.outputs {
-        let r = put_output(
-            plane,
-            rows,
-            bytes,
-            spans,
-            count,
-            slots,
-            Filled { slot, bytes: used },
-            s,
-            j,
-        );
-        slot = r.slot;
-        used = r.bytes;
-    }
-    Filled { slot, bytes: used }
+    put_each(shaped, out, shaped.shape.outputs, put_output);
 }
 
 // The annotation texts of row y.
-fn put_notes(
-    plane: &[u32],
-    rows: usize,
-    bytes: &[u8],
-    spans: &[u32],
-    count: usize,
-    slots: &mut [u32],
-    from: Filled,
-    s: Shape,
-    y: usize,
-) -> Filled
-    requires { Texts plane.now rows bytes.now spans.now count × Room from s.notes.count slots.old × (s.notes.col + s.notes.count ≤ plane_cells) }
-    ensures { Spelt bytes.now slots.old slots.new from result (note_texts (text_in bytes.now spans.now count) (plane_in plane.now rows) s y) }
+fn put_notes(shaped: ShapedSheet, out: &mut Slots, y: usize)
+    requires { HasRoom out.old shaped.shape.notes.count × (shaped.shape.notes.col + shaped.shape.notes.count ≤ plane_cells) }
+    ensures { Appended (bytes_of shaped.entry) out.old out.new (on_sheet note_texts shaped.entry y) }
 {
-    let a = s.notes;
-    slot_runs::put_row(
-        plane, rows, bytes, spans, count, slots, from, y, a.col, a.count,
-    )
+    let n = shaped.shape.notes;
+    slot_runs::put_row(shaped.sheet, out, y, n.col, n.count);
 }
 
 // Rule r: its input, output and annotation entries.
-fn put_rule(
-    plane: &[u32],
-    rows: usize,
-    bytes: &[u8],
-    spans: &[u32],
-    count: usize,
-    slots: &mut [u32],
-    from: Filled,
-    s: Shape,
-    r: usize,
-) -> Filled
-    requires { Texts plane.now rows bytes.now spans.now count × Room from (s.inputs + s.outputs + s.notes.count) slots.old × ShapeFits s rows (r + 1) }
-    ensures { Spelt bytes.now slots.old slots.new from result (entry_texts (text_in bytes.now spans.now count) (plane_in plane.now rows) s r) }
+fn put_rule(shaped: ShapedSheet, out: &mut Slots, r: usize)
+    requires { HasRoom out.old (shaped.shape.inputs + shaped.shape.outputs + shaped.shape.notes.count) × ShapeFits shaped.shape shaped.sheet.plane.rows (r + 1) }
+    ensures { Appended (bytes_of shaped.entry) out.old out.new (on_sheet entry_texts shaped.entry r) }
 {
+    let s = shaped.shape;
     let y = s.height + 1 + r;
-    let a = slot_runs::put_row(
-        plane, rows, bytes, spans, count, slots, from, y, 0, s.inputs,
-    );
-    let b = slot_runs::put_row(
-        plane,
-        rows,
-        bytes,
-        spans,
-        count,
-        slots,
-        a,
-        y,
-        s.inputs + 1,
-        s.outputs,
-    );
-    let n = s.notes;
-    put_notes(plane, rows, bytes, spans, count, slots, b, s, n.row + r)
+    slot_runs::put_row(shaped.sheet, out, y, 0, s.inputs);
+    slot_runs::put_row(shaped.sheet, out, y, s.inputs + 1, s.outputs);
+    put_notes(shaped, out, s.notes.row + r);
 }
 
 // All rules.
-fn put_rules(
-    plane: &[u32],
-    rows: usize,
-    bytes: &[u8],
-    spans: &[u32],
-    count: usize,
-    slots: &mut [u32],
-    from: Filled,
-    s: Shape,
-    rules: usize,
-) -> Filled
-    requires { Texts plane.now rows bytes.now spans.now count × Room from (rules * (s.inputs + s.outputs + s.notes.count)) slots.old × ShapeFits s rows rules }
-    ensures { Spelt bytes.now slots.old slots.new from result (join_run (entry_texts (text_in bytes.now spans.now count) (plane_in plane.now rows) s) 0 rules) }
+#[tactic(auto, using(crate::proofs::ShapeRoom::fewer_rules))]
+fn put_rules(shaped: ShapedSheet, out: &mut Slots, rules: usize)
+    requires { HasRoom out.old (rules * (shaped.shape.inputs + shaped.shape.outputs + shaped.shape.notes.count)) × ShapeFits shaped.shape shaped.sheet.plane.rows rules }
+    ensures { Appended (bytes_of shaped.entry) out.old out.new (join_run (on_sheet entry_texts shaped.entry) 0 rules) }
 {
-    let mut slot = from.slot;
-    let mut used = from.bytes;
-    for i in 0..rules {
-        let r = put_rule(
-            plane,
-            rows,
-            bytes,
-            spans,
-            count,
-            slots,
-            Filled { slot, bytes: used },
-            s,
-            i,
-        );
-        slot = r.slot;
-        used = r.bytes;
-    }
-    Filled { slot, bytes: used }
+    put_each(shaped, out, rules, put_rule);
 }
 
 // The texts of a sheet of a known shape, from slot 1 on: the name's slot is left to the caller.
-pub fn fill(
-    plane: &[u32],
-    rows: usize,
-    bytes: &[u8],
-    spans: &[u32],
-    count: usize,
-    slots: &mut [u32],
-    s: Shape,
-    rules: usize,
-) -> Filled
-    requires { Texts plane.now rows bytes.now spans.now count × ShapeFits s rows rules × (3 * slot_limit ≤ length slots.old) }
-    ensures { Spelt bytes.now slots.old slots.new (record { slot = 1; bytes = 0 }) result (spelled (text_in bytes.now spans.now count) (plane_in plane.now rows) s rules) }
+pub fn fill(sheet: TextPlane, slots: &mut [u32], shape: Shape, rules: usize) -> Filled
+    requires { (length sheet.texts.bytes.now ≤ text_bytes) × ShapeFits shape sheet.plane.rows rules × (3 * slot_limit ≤ length slots.old) }
+    ensures { Spelt sheet.entry.texts.bytes.now slots.old slots.new (record { slot = 1; bytes = 0 }) result (spelled (text_of sheet.entry.texts) (plane_of sheet.entry.plane) shape rules) }
 {
-    let a = put_label(
-        plane,
-        rows,
-        bytes,
-        spans,
-        count,
-        slots,
-        Filled { slot: 1, bytes: 0 },
-        s,
-    );
-    let b = put_inputs(plane, rows, bytes, spans, count, slots, a, s);
-    let c = put_outputs(plane, rows, bytes, spans, count, slots, b, s);
-    let d = put_notes(plane, rows, bytes, spans, count, slots, c, s, 0);
-    put_rules(plane, rows, bytes, spans, count, slots, d, s, rules)
+    let shaped = ShapedSheet { sheet, shape };
+    let mut out = Slots {
+        numbers: slots,
+        filled: Filled { slot: 1, bytes: 0 },
+    };
+    put_label(shaped, &mut out);
+    put_inputs(shaped, &mut out);
+    put_outputs(shaped, &mut out);
+    put_notes(shaped, &mut out, 0);
+    put_rules(shaped, &mut out, rules);
+    out.filled
 }

@@ -20,7 +20,8 @@ use Rattle.model.specs.declared.Cell.TheVariants.{Region, VerticalOutputDoubleLi
 use Rattle.model.specs.declared.Rect.{Rect}
 use Rattle.model.specs.declared.Refusal.TheVariants.{OverLimit}
 use Rattle.cells.specs.Plane.{Plane}
-use Rattle.cells.proofs.AmongLaws.{Numbered, Among}
+use Rattle.cells.specs.Held.{Numbered}
+use Rattle.cells.proofs.AmongLaws.{Among}
 use Rattle.outline.specs.declared.Outline.{Outline}
 use Rattle.regions.specs.Regions.{Finder}
 use Rattle.lookup.specs.Lookup.{region_of}

@@ -1,7 +1,7 @@
 -- A row of GRID is added to the plane, and the rows of GRID one after the other.
 use Rattle.std.specs.Prelude.{Ok, Err, None}
 use mathlib.Core.Path.{◌≡◌, refl, sym, ap, ◌∙◌, subst}
-use mathlib.Core.Bool.{Bool, true, false}
+use mathlib.Core.Bool.{Bool, true}
 use mathlib.Core.List.{List}
 use Prim.Native.Nat.{ℕ, ◌+◌, ◌-◌, ◌≤◌, ◌<◌}
 use native.Mathlib.Nat.{sub-zero}
@@ -16,6 +16,7 @@ use Rattle.lists.proofs.AnswerLaws.{turn_on, turn_out, turn_end}
 use Rattle.model.specs.Limits.{plane_size}
 use Rattle.model.specs.Refusals.{Reading}
 use Rattle.model.specs.declared.Rect.{Rect}
+use Rattle.model.specs.declared.Cell.TheVariants.{HorizontalOutputDoubleLine, HorizontalAnnotationsDoubleLine, MainDoubleCrossing, HorizontalDoubleCrossing, VerticalDoubleCrossing}
 use Rattle.model.specs.declared.Refusal.{Refusal}
 use Rattle.cells.specs.Plane.{plane_in}
 use Rattle.outline.specs.declared.Outline.{Outline}
@@ -24,6 +25,7 @@ use Rattle.walks.specs.Frame.{frame_of}
 use Rattle.walks.specs.Kinds.{grid}
 use Rattle.plane_cells.specs.Row.{is_at}
 use Rattle.plane_rows.specs.Made.{rows_of, rows_made, Fits, RowsFit, line_cell}
+use Rattle.plane_rows.proofs.LineLaws.{below_line}
 use Rattle.plane_rows.specs.Rows.{Rows, annotation_line, add_line}
 use Rattle.plane_rows.specs.declared.PlaneSofar.{PlaneSofar}
 use Rattle.step.specs.Made.{Over}
@@ -40,7 +42,7 @@ module _ (o : Outline) (find : Finder) (regions : List Rect) (p : Picture) (w y 
   abbrev below : Rows → Reading Rows
   below a = ◌>>=◌ (choose (is_at o.below y) (add_line (annotation_line a.output) a) (Ok a)) (add_frames o find regions p w y)
 
-  module _ (r1 : Reading PlaneSofar) (d1 : List ℕ) (e1 : rows_made r1 d1 ≡ choose (eqb y o.y) (add_line (line_cell true s.output s.annotation) (rows_of s d)) (Ok (rows_of s d))) where
+  module _ (r1 : Reading PlaneSofar) (d1 : List ℕ) (e1 : rows_made r1 d1 ≡ choose (eqb y o.y) (add_line (line_cell MainDoubleCrossing HorizontalDoubleCrossing HorizontalOutputDoubleLine s.output s.annotation) (rows_of s d)) (Ok (rows_of s d))) where
     first : {m : (Reading PlaneSofar)} → r1 ≡ m → whole ≡ ◌>>=◌ (rows_made m d1) below
     first z = ap (λ (a : Reading Rows). ◌>>=◌ a below) (sym e1 ∙ ap (λ (m : Reading PlaneSofar). rows_made m d1) z)
 
@@ -48,9 +50,9 @@ module _ (o : Outline) (find : Finder) (regions : List Rect) (p : Picture) (w y 
     main_out f z = sym (first z)
 
     module _ (a : PlaneSofar) (z1 : r1 ≡ Ok a) (u : Bool) (q : u ≡ is_at o.below y) (r2 : Reading PlaneSofar) (d2 : List ℕ)
-        (e2 : rows_made r2 d2 ≡ choose u (add_line (line_cell false a.output a.annotation) (rows_of a d1)) (Ok (rows_of a d1))) where
+        (e2 : rows_made r2 d2 ≡ choose u (add_line (line_cell VerticalDoubleCrossing HorizontalAnnotationsDoubleLine HorizontalAnnotationsDoubleLine a.output a.annotation) (rows_of a d1)) (Ok (rows_of a d1))) where
       second : {m : (Reading PlaneSofar)} → r2 ≡ m → whole ≡ ◌>>=◌ (rows_made m d2) (add_frames o find regions p w y)
-      second z = first z1 ∙ rw (← q) (ap (λ (b : Reading Rows). ◌>>=◌ b (add_frames o find regions p w y)) (sym e2 ∙ ap (λ (m : Reading PlaneSofar). rows_made m d2) z))
+      second z = first z1 ∙ rw (← q, ← below_line a.output a.annotation) (ap (λ (b : Reading Rows). ◌>>=◌ b (add_frames o find regions p w y)) (sym e2 ∙ ap (λ (m : Reading PlaneSofar). rows_made m d2) z))
 
       pub below_out : (f : Refusal) → r2 ≡ Err f → Err f ≡ whole
       below_out f z = sym (second z)

@@ -1,13 +1,14 @@
 -- What the functions of the plane step ask for, and what they answer with the slice that holds the plane.
-use Rattle.std.specs.Prelude.{List, ◌≡◌, ℕ, ◌*◌, ◌≤◌, length, Ok, Err}
+use Rattle.std.specs.Prelude.{List, ◌≡◌, ℕ, ◌*◌, length, Ok, Err}
 use Rattle.lists.specs.Picture.{canvas}
-use Rattle.model.specs.Limits.{region_count}
+use Rattle.model.specs.Layers.{picture_of}
 use Rattle.model.specs.Refusals.{Reading}
 use Rattle.model.specs.declared.Rect.{Rect}
 use Rattle.model.specs.declared.Refusal.{Refusal}
 use Rattle.model.specs.declared.Refusal.TheVariants.{RegionNotFound}
 use Rattle.cells.specs.Plane.{Plane, plane_in, PlaneFits}
-use Rattle.regions.specs.Slices.{Layer}
+use Rattle.regions.specs.Regions.{Finder}
+use Rattle.step.specs.declared.numbers.NumberedGrid.{NumberedGrid}
 use Rattle.lookup.specs.Lookup.{Numbered}
 use Rattle.walks.specs.Frame.{frame_of}
 use Rattle.walks.specs.Kinds.{grid}
@@ -26,19 +27,14 @@ abbrev pub MadeFits : Reading ℕ → List ℕ → Type 0
 MadeFits (Ok n) d = PlaneFits d n
 MadeFits (Err r) d = Unit {0}
 
--- the layer GRID of w columns and h rows, the rects of the regions, four numbers each, and a place for the number of each frame
-pub record StepRoom (w h count : ℕ) (l r found : List ℕ) : Type 0 where
-  pub layer : Layer w h (length l)
-  pub size : h * w ≤ length found
-  pub few : count ≤ region_count
-  pub rects : count * 4 ≤ length r
-
--- that layer, with the numbers of its frames
-pub record NumberRoom (w h count : ℕ) (l found : List ℕ) : Type 0 where
-  pub layer : Layer w h (length l)
-  pub few : count ≤ region_count
-  pub numbers : h * w ≤ length found
-
 -- a fact of every `count` regions whose numbers stand in `found`
 abbrev pub Over : ℕ → ℕ → ℕ → List ℕ → List ℕ → (List Rect → Type 0) → Type 0
 Over w h count l found Is = (rs : List Rect) → length rs ≡ count → Numbered (frame_of grid (canvas w h l) w h) rs (canvas w h l) w (h * w) found → Is rs
+
+-- the same of the regions whose numbers a value holds
+abbrev pub OverNumbered : NumberedGrid → (List Rect → Type 0) → Type 0
+OverNumbered n = Over n.grid.width n.grid.height n.count n.grid.codes.now n.found.now
+
+-- the frames of its GRID
+abbrev pub frames_in : NumberedGrid → Finder
+frames_in n = frame_of grid (picture_of n.grid) n.grid.width n.grid.height

@@ -1,9 +1,12 @@
 // The plane step: from the frames of GRID, the regions and the crossings to the plane.
 #![tactic(auto)]
 
-ghost use Rattle.std.specs.Prelude.{true, ◌≡◌, [], ◌+◌, ◌*◌, ◌≤◌, ◌<◌, length};
-ghost use Rattle.lists.specs.Picture.{pic, canvas};
-ghost use Rattle.model.specs.Limits.{plane_size};
+pub mod numbers;
+
+ghost use Rattle.std.specs.Prelude.{true, ◌≡◌, [], ◌*◌, ◌≤◌, ◌<◌, length};
+ghost use Rattle.lists.specs.Picture.{pic};
+ghost use Rattle.model.specs.Layers.{picture_of};
+ghost use Rattle.model.specs.Limits.{plane_size, region_count};
 ghost use Rattle.cells.specs.Plane.{KeptBefore};
 ghost use Rattle.regions.specs.Corners.{NextCorner};
 ghost use Rattle.rects.specs.Rects.{rects_of};
@@ -13,79 +16,71 @@ ghost use Rattle.walks.specs.Kinds.{grid};
 ghost use Rattle.plane_cells.specs.Made.{row_of, row_made, RowFit, RowFits};
 ghost use Rattle.plane_rows.specs.Made.{rows_of, rows_made, Fits, RowsFit};
 ghost use Rattle.step.specs.PlaneStep.{add_cell, row_by, add_frames, add_grid_row, plane_of};
-ghost use Rattle.step.specs.Made.{no_region, plane_made, MadeFits, StepRoom, NumberRoom, Over};
+ghost use Rattle.step.specs.Made.{no_region, plane_made, MadeFits, frames_in, OverNumbered};
 
-use model::Refusal;
+use model::layer::Layer;
+use model::{Point, Refusal};
+use numbers::NumberedGrid;
 use outline::Outline;
 use plane_cells::RowSofar;
-use plane_rows::PlaneSofar;
+use plane_rows::{PlaneSofar, line};
 
-// Why the frame that starts in column x of row y has no region.
-fn why_none(layer: &[u32], w: usize, h: usize, x: usize, y: usize) -> Refusal
-    requires { Place w h x y (length layer.now) }
-    ensures { result ≡ no_region (frame_of grid (canvas w h layer.now) w h x y) }
+// Why the frame that starts at a place has no region.
+fn why_none(layer: Layer, at: Point) -> Refusal
+    requires { Place layer.width layer.height at.x at.y }
+    ensures { result ≡ no_region (frame_of grid (picture_of layer.entry) layer.entry.width layer.entry.height at.x at.y) }
 {
-    match frames::recognize_rectangle(layer, w, h, x, y) {
+    match frames::recognize_rectangle(layer, at) {
         Ok(f) => Refusal::RegionNotFound(f.left, f.top),
         Err(r) => r,
     }
 }
 
-// The cells of the frame that starts in column x of row y, whose number is known.
+// The cells of the frame that starts at a place.
 fn add_frame(
-    o: Outline,
-    layer: &[u32],
-    w: usize,
-    h: usize,
-    x: usize,
-    y: usize,
-    found: &[u32],
-    count: usize,
+    n: NumberedGrid,
+    at: Point,
     plane: &mut [u32],
     row: usize,
     s: RowSofar,
 ) -> Result<RowSofar, Refusal>
-    requires { NumberRoom w h count layer.now found.now × (x < w) × (y < h) × RowFit s row × (plane_size ≤ length plane.old) × (is_corner (canvas w h layer.now x y) ≡ true) }
-    ensures made { Over w h count layer.now found.now (λ rs. row_made result plane.new row ≡ add_cell o (frame_of grid (canvas w h layer.now) w h) rs row y x (row_of s plane.old row)) }
+    requires { Place n.grid.width n.grid.height at.x at.y × RowFit s row × (plane_size ≤ length plane.old) × (is_corner (picture_of n.grid at.x at.y) ≡ true) }
+    ensures made { OverNumbered n.entry (λ rs. row_made result plane.new row ≡ add_cell n.entry.outline (frames_in n.entry) rs row at.y at.x (row_of s plane.old row)) }
     ensures fits { RowFits result row }
     ensures before { KeptBefore plane.old plane.new row }
 {
-    let k = found[y * w + x] as usize;
-    if k < count {
-        return plane_cells::add_cells(o, x, k, plane, row, s);
+    let k = n.found[at.y * n.grid.width + at.x] as usize;
+    if k < n.count {
+        return plane_cells::add_cells(n.outline, at.x, k, plane, row, s);
     }
-    Err(why_none(layer, w, h, x, y))
+    Err(why_none(n.grid, at))
 }
 
-// The column of the first corner of row y from column x on, or w.
-fn corner_in_row(layer: &[u32], w: usize, x: usize, y: usize) -> usize
-    requires { (x ≤ w) × (y * w + w ≤ length layer.now) }
-    ensures { NextCorner (λ i. is_corner (pic w layer.now i y)) w x result }
+// The column of the first corner of row y from column x on, or the width.
+fn corner_in_row(layer: Layer, x: usize, y: usize) -> usize
+    requires { (x ≤ layer.width) × (y < layer.height) }
+    ensures { NextCorner (λ i. is_corner (pic layer.entry.width layer.entry.codes.now i y)) layer.entry.width x result }
 {
-    let start = y * w;
-    regions::next_corner(layer, start + w, start + x) - start
+    let start = y * layer.width;
+    regions::next_corner(layer.codes, start + layer.width, start + x) - start
 }
 
 // The frames that start in row y, as a row of the plane.
 fn make_row(
-    o: Outline,
-    layer: &[u32],
-    w: usize,
-    h: usize,
+    n: NumberedGrid,
     y: usize,
-    found: &[u32],
-    count: usize,
     plane: &mut [u32],
     row: usize,
     output: Option<usize>,
     annotation: Option<usize>,
 ) -> Result<RowSofar, Refusal>
-    requires { NumberRoom w h count layer.now found.now × (y < h) × (plane_size ≤ length plane.old) }
-    ensures made { Over w h count layer.now found.now (λ rs. row_made result plane.new row ≡ row_by o (frame_of grid (canvas w h layer.now) w h) rs (canvas w h layer.now) w row y (record { cells = []; output = output; annotation = annotation })) }
+    requires { (y < n.grid.height) × (plane_size ≤ length plane.old) }
+    ensures made { OverNumbered n.entry (λ rs. row_made result plane.new row ≡ row_by n.entry.outline (frames_in n.entry) rs (picture_of n.entry.grid) n.entry.grid.width row y (record { cells = []; output = output; annotation = annotation })) }
     ensures fits { RowFits result row }
     ensures before { KeptBefore plane.old plane.new row }
 {
-    let mut x = corner_in_row(layer, w, 0, y);
+    let w = n.grid.width;
+    let mut x = corner_in_row(n.grid, 0, y);
     let mut s = RowSofar {
         cells: 0,
         output,
@@ -93,83 +88,59 @@ fn make_row(
     };
     // No `for`: each turn goes on to the next corner.
     while x < w {
-        s = add_frame(o, layer, w, h, x, y, found, count, plane, row, s)?;
-        x = corner_in_row(layer, w, x + 1, y);
+        s = add_frame(n, Point { x, y }, plane, row, s)?;
+        x = corner_in_row(n.grid, x + 1, y);
     }
     Ok(s)
 }
 
 // The row of the frames that start in row y.
 fn add_frames(
-    o: Outline,
-    layer: &[u32],
-    w: usize,
-    h: usize,
+    n: NumberedGrid,
     y: usize,
-    found: &[u32],
-    count: usize,
     plane: &mut [u32],
     s: PlaneSofar,
 ) -> Result<PlaneSofar, Refusal>
-    requires { NumberRoom w h count layer.now found.now × (y < h) × Fits s plane.old }
-    ensures made { Over w h count layer.now found.now (λ rs. rows_made result plane.new ≡ add_frames o (frame_of grid (canvas w h layer.now) w h) rs (canvas w h layer.now) w y (rows_of s plane.old)) }
+    requires { (y < n.grid.height) × Fits s plane.old }
+    ensures made { OverNumbered n.entry (λ rs. rows_made result plane.new ≡ add_frames n.entry.outline (frames_in n.entry) rs (picture_of n.entry.grid) n.entry.grid.width y (rows_of s plane.old)) }
     ensures fits { RowsFit result plane.new }
 {
     let row = s.rows;
-    let output = s.output;
-    let annotation = s.annotation;
-    let t = make_row(
-        o, layer, w, h, y, found, count, plane, row, output, annotation,
-    )?;
-    let n = t.cells;
-    if n == 0 {
+    let t = make_row(n, y, plane, row, s.output, s.annotation)?;
+    let width = t.cells;
+    if width == 0 {
         return Ok(s);
     }
-    cells::end_row(plane, row, n);
-    let output = t.output;
-    let annotation = t.annotation;
+    cells::end_row(plane, row, width);
     Ok(PlaneSofar {
         rows: row + 1,
-        width: n,
-        output,
-        annotation,
+        width,
+        output: t.output,
+        annotation: t.annotation,
     })
 }
 
 // Row y of GRID: the line rows that stand there, and the row of its frames.
 fn add_grid_row(
-    o: Outline,
-    layer: &[u32],
-    w: usize,
-    h: usize,
+    n: NumberedGrid,
     y: usize,
-    found: &[u32],
-    count: usize,
     plane: &mut [u32],
     s: PlaneSofar,
 ) -> Result<PlaneSofar, Refusal>
-    requires { NumberRoom w h count layer.now found.now × (y < h) × Fits s plane.old }
-    ensures made { Over w h count layer.now found.now (λ rs. rows_made result plane.new ≡ add_grid_row o (frame_of grid (canvas w h layer.now) w h) rs (canvas w h layer.now) w y (rows_of s plane.old)) }
+    requires { (y < n.grid.height) × Fits s plane.old }
+    ensures made { OverNumbered n.entry (λ rs. rows_made result plane.new ≡ add_grid_row n.entry.outline (frames_in n.entry) rs (picture_of n.entry.grid) n.entry.grid.width y (rows_of s plane.old)) }
     ensures fits { RowsFit result plane.new }
 {
-    let a = plane_rows::add_line_row(plane, s, y == o.y, true)?;
-    let below = o.below;
-    let b = plane_rows::add_line_row(plane, a, plane_cells::is_at(below, y), false)?;
-    add_frames(o, layer, w, h, y, found, count, plane, b)
+    let o = n.outline;
+    let a = plane_rows::add_line_row(plane, s, y == o.y, line::MAIN)?;
+    let b = plane_rows::add_line_row(plane, a, plane_cells::is_at(o.below, y), line::ANNOTATIONS)?;
+    add_frames(n, y, plane, b)
 }
 
-// The plane of a GRID layer of w columns and h rows, whose frames are numbered.
-fn add_grid_rows(
-    o: Outline,
-    layer: &[u32],
-    w: usize,
-    h: usize,
-    found: &[u32],
-    count: usize,
-    plane: &mut [u32],
-) -> Result<usize, Refusal>
-    requires { NumberRoom w h count layer.now found.now × (plane_size ≤ length plane.old) }
-    ensures made { Over w h count layer.now found.now (λ rs. plane_made result plane.new ≡ plane_of o rs (canvas w h layer.now) w h) }
+// The plane of GRID, whose frames are numbered.
+fn add_grid_rows(n: NumberedGrid, plane: &mut [u32]) -> Result<usize, Refusal>
+    requires { plane_size ≤ length plane.old }
+    ensures made { OverNumbered n.entry (λ rs. plane_made result plane.new ≡ plane_of n.entry.outline rs (picture_of n.entry.grid) n.entry.grid.width n.entry.grid.height) }
     ensures fits { MadeFits result plane.new }
 {
     let mut s = PlaneSofar {
@@ -178,27 +149,31 @@ fn add_grid_rows(
         output: None,
         annotation: None,
     };
-    for y in 0..h {
-        s = add_grid_row(o, layer, w, h, y, found, count, plane, s)?;
+    for y in 0..n.grid.height {
+        s = add_grid_row(n, y, plane, s)?;
     }
     Ok(s.rows)
 }
 
-// The plane of a GRID layer of w columns and h rows, over `count` regions. The numbers of its frames are left in `found`.
+// The plane of a GRID layer, over `count` regions. The numbers of its frames are left in `found`.
 pub fn make_plane(
     o: Outline,
-    layer: &[u32],
-    w: usize,
-    h: usize,
+    layer: Layer,
     rects: &[u32],
     count: usize,
     found: &mut [u32],
     plane: &mut [u32],
 ) -> Result<usize, Refusal>
-    requires { StepRoom w h count layer.now rects.now found.old × (plane_size ≤ length plane.old) }
-    ensures made { plane_made result plane.new ≡ plane_of o (rects_of rects.now count) (canvas w h layer.now) w h }
+    requires { (count ≤ region_count) × (count * 4 ≤ length rects.now) × (layer.height * layer.width ≤ length found.old) × (plane_size ≤ length plane.old) }
+    ensures made { plane_made result plane.new ≡ plane_of o (rects_of rects.now count) (picture_of layer.entry) layer.entry.width layer.entry.height }
     ensures fits { MadeFits result plane.new }
 {
-    lookup::number_frames(layer, w, h, rects, count, found);
-    add_grid_rows(o, layer, w, h, found, count, plane)
+    lookup::number_frames(layer, rects, count, found);
+    let n = NumberedGrid {
+        outline: o,
+        grid: layer,
+        found,
+        count,
+    };
+    add_grid_rows(n, plane)
 }

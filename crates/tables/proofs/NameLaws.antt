@@ -15,6 +15,7 @@ use Rattle.model.specs.Refusals.{Reading}
 use Rattle.record.specs.Policy.{Text}
 use Rattle.record.specs.Record.{Table, packed, bytes_of}
 use Rattle.record.specs.Slots.{kind_at, offset_at, length_at, slot_limit}
+use Rattle.cells.specs.Held.{TextsHeld}
 use Rattle.cells.specs.Spans as spans
 use Rattle.cells.proofs.SpanLaws.{text_in_lem}
 use Rattle.writer.specs.SlotTexts.{slot_text, texts_from}
@@ -22,6 +23,12 @@ use Rattle.slot_runs.specs.Spelt.{SlotPut}
 use Rattle.recognizer.specs.Told.{TableHeld, table_in}
 use Rattle.recognizer.specs.declared.SlotTable.{SlotTable}
 use Rattle.tables.specs.NamedTable.{name_of, named_table, NameIn, NamePut, Named}
+
+-- a name that is taken from texts in slices
+pub record NameHeld (named : Bool) (bytes ss : List ℕ) (count : ℕ) : Type 0 where
+  pub first : NameIn named count
+  pub few : length bytes ≤ text_bytes
+  pub texts : TextsHeld bytes ss count
 
 -- slot 0 as it was written
 pub name_part : {ss d o : List ℕ} {named : Bool} → named ≡ true → SlotPut d o 0 1 (spans.offset_at ss 0) (spans.length_at ss 0) → NamePut named ss d o (spans.length_at ss 0)
@@ -45,7 +52,7 @@ name_absent t p =
     }
 
 -- the name is that of the slot
-name-text : (named : Bool) (bytes ss : List ℕ) (count : ℕ) → (named ≡ true → 0 < count)
+name-text : (named : Bool) (bytes ss : List ℕ) (count : ℕ) → NameIn named count
     → choose named (Some (spans.text_at bytes ss 0)) None ≡ name_of named (spans.text_in bytes ss count)
 name-text true bytes ss count h = ap Some (sym (text_in_lem bytes ss count 0 (h refl)))
 name-text false bytes ss count h = refl
@@ -75,20 +82,20 @@ part_size : (bytes : List ℕ) (a n : ℕ) → a + n ≤ length bytes → length
 part_size bytes a n h = length-take-le n (drop a bytes) (omega (arith, length-drop a bytes))
 
 -- the bytes of a name
-name-bytes : (named : Bool) (bytes ss : List ℕ) (count : ℕ) → NameIn named bytes ss count
+name-bytes : (named : Bool) (bytes ss : List ℕ) (count : ℕ) → NameHeld named bytes ss count
     → length (bytes_of (name_of named (spans.text_in bytes ss count))) ≡ choose named (spans.length_at ss 0) 0
 name-bytes true bytes ss count n =
     let h = n.first refl in
-    ap length (text_in_lem bytes ss count 0 h) ∙ part_size bytes (spans.offset_at ss 0) (spans.length_at ss 0) (n.inside 0 h)
+    ap length (text_in_lem bytes ss count 0 h) ∙ part_size bytes (spans.offset_at ss 0) (spans.length_at ss 0) (n.texts.inside 0 h)
 name-bytes false bytes ss count n = refl
 
-name-inside : (named : Bool) (bytes ss : List ℕ) (count : ℕ) → NameIn named bytes ss count
+name-inside : (named : Bool) (bytes ss : List ℕ) (count : ℕ) → NameHeld named bytes ss count
     → choose named (spans.offset_at ss 0 + spans.length_at ss 0) 0 ≤ length bytes
-name-inside true bytes ss count n = n.inside 0 (n.first refl)
+name-inside true bytes ss count n = n.texts.inside 0 (n.first refl)
 name-inside false bytes ss count n = omega arith
 
 -- so few that they can be added up
-pub name-light : {t : SlotTable} {named : Bool} {bytes ss d o : List ℕ} {count size : ℕ} → TableHeld t bytes d → NameIn named bytes ss count → NamePut named ss d o size
+pub name-light : {t : SlotTable} {named : Bool} {bytes ss d o : List ℕ} {count size : ℕ} → TableHeld t bytes d → NameHeld named bytes ss count → NamePut named ss d o size
     → t.bytes + size ≤ (slot_limit + 1) * text_bytes
 name-light {t} {named} {bytes} {ss} {d} {o} {count} {size} h n p = omega (arith, h.light, h.few, p.bytes, name-inside named bytes ss count n, name_most named, n.few)
   where
@@ -102,7 +109,7 @@ unfolding packed
 packed_front t ts = length-append (bytes_of t) (packed ts)
 
 -- a table with its name
-module _ {t : SlotTable} {named : Bool} {bytes ss d o : List ℕ} {count size : ℕ} (h : TableHeld t bytes d) (n : NameIn named bytes ss count) (p : NamePut named ss d o size) where
+module _ {t : SlotTable} {named : Bool} {bytes ss d o : List ℕ} {count size : ℕ} (h : TableHeld t bytes d) (n : NameHeld named bytes ss count) (p : NamePut named ss d o size) where
   abbrev name : Text
   name = name_of named (spans.text_in bytes ss count)
 

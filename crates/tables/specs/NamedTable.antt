@@ -1,5 +1,5 @@
 -- A table whose texts stand in slots, the name's among them.
-use Rattle.std.specs.Prelude.{Bool, true, false, List, ◌∷◌, ◌≡◌, ℕ, ◌+◌, ◌-◌, ◌*◌, ◌≤◌, ◌<◌, length, get_or, None, Some, Ok, Err}
+use Rattle.std.specs.Prelude.{Bool, true, false, List, ◌∷◌, ◌≡◌, ℕ, ◌+◌, ◌-◌, ◌≤◌, ◌<◌, length, get_or, None, Some, Ok, Err}
 use Rattle.lists.specs.Choose.{choose}
 use Rattle.model.specs.Limits.{plane_rows, text_bytes}
 use Rattle.model.specs.Policies.{policy_number, orientation_number}
@@ -43,12 +43,9 @@ abbrev pub AnswerHeld : Reading SlotTable → List ℕ → List ℕ → Type 0
 AnswerHeld (Ok t) bytes d = NamedHeld t bytes d
 AnswerHeld (Err r) bytes d = Unit {0}
 
--- what a name may be taken from: where there is one, the first of `count` texts
-pub record NameIn (named : Bool) (bytes ss : List ℕ) (count : ℕ) : Type 0 where
-  pub first : named ≡ true → 0 < count
-  pub few : length bytes ≤ text_bytes
-  pub two_each : count * 2 ≤ length ss
-  pub inside : (k : ℕ) → k < count → spans.offset_at ss k + spans.length_at ss k ≤ length bytes
+-- where there is a name, there is a first text
+abbrev pub NameIn : Bool → ℕ → Type 0
+NameIn named count = named ≡ true → 0 < count
 
 -- the name's slot is written: its text, its bytes, and nothing else changed
 pub record NamePut (named : Bool) (ss d o : List ℕ) (size : ℕ) : Type 0 where

@@ -1,23 +1,27 @@
 // The table of a plane, with its name: its numbers, and its texts as slots of a work slice.
 #![tactic(auto)]
 
-ghost use Rattle.std.specs.Prelude.{true, ◌≡◌, ◌*◌, ◌≤◌, length};
-ghost use Rattle.cells.specs.Plane.{plane_in};
-ghost use Rattle.cells.specs.Spans.{text_in};
+ghost use Rattle.std.specs.Prelude.{◌≡◌, ◌*◌, ◌≤◌, length};
+ghost use Rattle.model.specs.Limits.{text_bytes};
+ghost use Rattle.cells.specs.Slices.{plane_of, text_of};
 ghost use Rattle.record.specs.Slots.{slot_limit};
 ghost use Rattle.recognizer.specs.StatedPolicy.{stated_policy};
 ghost use Rattle.recognizer.specs.Told.{table_read, TableHeld, WorkRoom};
 ghost use Rattle.tables.specs.NamedTable.{name_of, named_table, AnswerHeld, NameIn, NamePut, Named};
 
+use cells::text_plane::TextPlane;
+use cells::texts::Texts;
 use model::Refusal;
 use recognizer::SlotTable;
 use record::{ABSENT, PART};
 
+// `named` is a fact of the drawing.
 // The name's slot: the first region's text, or none. Answers the name's bytes.
-fn put_name(spans: &[u32], slots: &mut [u32], named: bool) -> usize
-    requires { (named ≡ true → 2 ≤ length spans.now) × (3 ≤ length slots.old) }
-    ensures { NamePut named spans.now slots.old slots.new result }
+fn put_name(texts: Texts, slots: &mut [u32], named: bool) -> usize
+    requires { NameIn named texts.count × (3 ≤ length slots.old) }
+    ensures { NamePut named texts.entry.spans.now slots.old slots.new result }
 {
+    let spans = texts.spans;
     if named {
         slot_runs::put_slot(slots, 0, PART, spans[0], spans[1]);
         return spans[1] as usize;
@@ -27,47 +31,28 @@ fn put_name(spans: &[u32], slots: &mut [u32], named: bool) -> usize
 }
 
 // A table with its name.
-fn add_name(
-    t: SlotTable,
-    bytes: &[u8],
-    spans: &[u32],
-    count: usize,
-    slots: &mut [u32],
-    named: bool,
-) -> SlotTable
-    requires { TableHeld t bytes.now slots.old × NameIn named bytes.now spans.now count × (3 * slot_limit ≤ length slots.old) }
-    ensures { Named t result (name_of named (text_in bytes.now spans.now count)) bytes.now slots.old slots.new }
+fn add_name(t: SlotTable, texts: Texts, slots: &mut [u32], named: bool) -> SlotTable
+    requires { TableHeld t texts.bytes.now slots.old × NameIn named texts.count × (length texts.bytes.now ≤ text_bytes) × (3 * slot_limit ≤ length slots.old) }
+    ensures { Named t result (name_of named (text_of texts.entry)) texts.entry.bytes.now slots.old slots.new }
 {
-    let size = put_name(spans, slots, named);
-    let policy = t.policy;
-    let orientation = t.orientation;
+    let size = put_name(texts, slots, named);
     SlotTable {
-        policy,
-        orientation,
-        inputs: t.inputs,
-        outputs: t.outputs,
-        annotations: t.annotations,
-        rules: t.rules,
-        slots: t.slots,
         bytes: t.bytes + size,
+        ..t
     }
 }
 
-// The table of a plane of n rows, with a name where there is one.
+// The table of a plane, with a name where there is one.
 pub fn plane_table(
-    plane: &[u32],
-    n: usize,
-    bytes: &[u8],
-    spans: &[u32],
-    count: usize,
+    sheet: TextPlane,
     named: bool,
     upright: &mut [u32],
     slots: &mut [u32],
 ) -> Result<SlotTable, Refusal>
-    requires { WorkRoom plane.now n bytes.now spans.now count upright.old slots.old × NameIn named bytes.now spans.now count }
-    ensures table { named_table result bytes.now slots.new ≡ table_read (stated_policy (name_of named (text_in bytes.now spans.now count)) (text_in bytes.now spans.now count) (plane_in plane.now n)) }
-    ensures held { AnswerHeld result bytes.now slots.new }
+    requires { WorkRoom sheet.texts.bytes.now upright.old slots.old × NameIn named sheet.texts.count }
+    ensures table { named_table result sheet.entry.texts.bytes.now slots.new ≡ table_read (stated_policy (name_of named (text_of sheet.entry.texts)) (text_of sheet.entry.texts) (plane_of sheet.entry.plane)) }
+    ensures held { AnswerHeld result sheet.entry.texts.bytes.now slots.new }
 {
-    let t = recognizer::recognize(plane, n, bytes, spans, count, upright, slots)?;
-    Ok(add_name(t, bytes, spans, count, slots, named))
+    let t = recognizer::recognize(sheet, upright, slots)?;
+    Ok(add_name(t, sheet.texts, slots, named))
 }

@@ -1,4 +1,5 @@
 // The lines of a text in UTF-8, read by their bytes: a line of a sheet with its length, and the head of any other.
+// Places are indices into the whole text, as in `utf8`.
 #![tactic(auto)]
 
 ghost use Rattle.std.specs.Prelude.{true, ◌≡◌, ◌+◌, ◌<◌, ◌≤◌, length, drop};
@@ -127,6 +128,7 @@ struct Rest {
     valid: usize,
 }
 
+// 0 and no Option: it is compared with a box character alone, and 0 is none.
 fn code_of(d: Decoded) -> u32
     ensures { result ≡ code_of d }
 {
@@ -211,6 +213,7 @@ pub fn line_at(s: &[u8], at: usize) -> Line
 }
 
 // The code point that a text begins with, 0 where a line feed stands or nothing.
+// 0 and no Option, as in `code_of`.
 fn first_of(d: Decoded) -> u32
     ensures { result ≡ head_of d }
 {

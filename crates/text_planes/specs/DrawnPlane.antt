@@ -1,18 +1,18 @@
 -- The plane that a drawing states, with the texts of its regions: document 01, "Regions and plane".
-use Rattle.std.specs.Prelude.{List, ℕ, ◌≤◌, length, take, Ok, Err}
+use Rattle.std.specs.Prelude.{List, ℕ, ◌+◌, ◌*◌, ◌≤◌, length, take, Ok, Err}
 use Rattle.lists.specs.Answer.{◌>>=◌}
 use Rattle.lists.specs.Picture.{Picture}
-use Rattle.model.specs.Limits.{plane_size, text_bytes}
+use Rattle.model.specs.Limits.{plane_size, region_count, text_bytes}
 use Rattle.model.specs.Refusals.{Reading}
 use Rattle.cells.specs.Held.{Held}
 use Rattle.cells.specs.Plane.{TextPlane, plane_in}
 use Rattle.cells.specs.Spans.{texts_in}
 use Rattle.outline.specs.declared.Outline.{Outline}
-use Rattle.regions.specs.Slices.{Layer}
+use Rattle.regions.specs.Slices.{SmallSizes}
 use Rattle.step.specs.PlaneStep.{plane_by}
 use Rattle.walks.specs.Frame.{FrameFinder, frame_of}
 use Rattle.walks.specs.Kinds as kind
-use Rattle.text_planes.specs.RegionTexts.{region_texts_by, RegionRoom}
+use Rattle.text_planes.specs.RegionTexts.{region_texts_by}
 use Rattle.text_planes.specs.declared.PlaneRead.{PlaneRead}
 
 -- the regions of THIN and their texts on TEXT, then the plane of GRID: the texts are counted (7) before the plane is made
@@ -36,8 +36,13 @@ abbrev pub PlaneHeld : Reading PlaneRead → List ℕ → List ℕ → List ℕ 
 PlaneHeld (Ok p) plane bytes spans = Held plane p.rows (take text_bytes bytes) spans p.count
 PlaneHeld (Err r) plane bytes spans = Unit {0}
 
--- the slices that reading a plane is handed: b takes the regions, m the number of each frame, t the plane
-pub record PlaneRoom (w h : ℕ) (t m g b bytes spans : List ℕ) : Type 0 where
-  pub regions : RegionRoom w h t m b bytes spans
-  pub grid : Layer w h (length g)
+-- the slices that reading a plane of w columns and h rows is handed: t has TEXT and takes the plane, m has THIN and takes the number
+-- of each frame, b takes the regions
+pub record PlaneRoom (w h : ℕ) (t m b bytes spans : List ℕ) : Type 0 where
+  pub small : SmallSizes w h
+  pub text : h * w ≤ length t
+  pub thin : h * w ≤ length m
+  pub four_each : region_count * 4 ≤ length b
+  pub all_texts : text_bytes + 4 ≤ length bytes
+  pub two_each : region_count * 2 ≤ length spans
   pub plane : plane_size ≤ length t

@@ -1,12 +1,13 @@
 -- The regions of a drawing with their texts: document 01, "Regions and plane".
-use Rattle.std.specs.Prelude.{List, ℕ, ◌*◌, ◌≤◌, ◌+◌, length, Ok, Err}
+use Rattle.std.specs.Prelude.{List, ◌≡◌, ℕ, ◌*◌, ◌≤◌, ◌+◌, length, Ok, Err}
 use Rattle.lists.specs.Answer.{◌>>=◌}
 use Rattle.lists.specs.Picture.{Picture}
 use Rattle.model.specs.Limits.{region_count, text_bytes}
 use Rattle.model.specs.Refusals.{Reading}
 use Rattle.model.specs.declared.Rect.{Rect}
+use Rattle.model.specs.declared.layer.Layer.{Layer}
 use Rattle.rects.specs.Rects.{rects_of}
-use Rattle.regions.specs.Slices.{Layer}
+use Rattle.regions.specs.Slices.{SmallSizes}
 use Rattle.regions.specs.Regions.{regions_by}
 use Rattle.texts.specs.RegionText.{texts_of}
 use Rattle.walks.specs.Frame.{FrameFinder, frame_of}
@@ -40,10 +41,11 @@ abbrev pub UsedIn : Reading RegionsRead → List ℕ → List ℕ → Type 0
 UsedIn (Ok g) bytes spans = (g.count ≤ region_count) × SpansIn (Ok g.used) bytes spans g.count
 UsedIn (Err r) bytes spans = Unit {0}
 
--- the slices that reading regions is handed
-pub record RegionRoom (w h : ℕ) (text thin rects bytes spans : List ℕ) : Type 0 where
-  pub layer : Layer w h (length thin)
-  pub size : h * w ≤ length text
+-- the layers that reading regions is handed, of the same columns and rows, and the slices
+pub record RegionRoom (text thin : Layer) (rects bytes spans : List ℕ) : Type 0 where
+  pub columns : text.width ≡ thin.width
+  pub rows : text.height ≡ thin.height
+  pub small : SmallSizes thin.width thin.height
   pub four_each : region_count * 4 ≤ length rects
   pub all_texts : text_bytes + 4 ≤ length bytes
   pub two_each : region_count * 2 ≤ length spans

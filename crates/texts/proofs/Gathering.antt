@@ -41,7 +41,7 @@ size_grows w h t rs = grows (text w h t rs) (λ ts. length (packed ts)) (λ ts x
 
 -- the texts of the rects before k stand before `at`, each where its span tells
 pub record Gathering (w h : ℕ) (t rs d s₀ : List ℕ) (n : ℕ) (out s : List ℕ) (k at : ℕ) : Type 0 where
-  pub slices : Slices w h t rs d s₀ n
+  pub slices : Slices w h rs d s₀ n
   pub along : k ≤ n
   pub room : at ≤ text_bytes
   pub sized : at ≡ size w h t rs k
@@ -50,7 +50,7 @@ pub record Gathering (w h : ℕ) (t rs d s₀ : List ℕ) (n : ℕ) (out s : Lis
   pub long : length out ≡ length d
   pub spans : length s ≡ length s₀
 
-pub gathering_start : {w h : ℕ} {t rs d s₀ : List ℕ} {n : ℕ} → Slices w h t rs d s₀ n → Gathering w h t rs d s₀ n d s₀ 0 0
+pub gathering_start : {w h : ℕ} {t rs d s₀ : List ℕ} {n : ℕ} → Slices w h rs d s₀ n → Gathering w h t rs d s₀ n d s₀ 0 0
 unfolding run packed
 gathering_start g =
     record {
@@ -66,8 +66,8 @@ gathering_start g =
 
 module _ {w h : ℕ} {t rs d s₀ : List ℕ} {n : ℕ} {out s : List ℕ} {k at : ℕ} (q : Gathering w h t rs d s₀ n out s k at) where
   module _ (l : k < n) where
-    pub gathering_room : (h * w ≤ length t) × (k * 4 + 4 ≤ length rs) × RectIn w h (rect_at rs k) × (at ≤ text_bytes) × (text_bytes + 4 ≤ length out)
-    gathering_room = (q.slices.text, omega (arith, q.slices.rects), q.slices.inside k l, q.room, omega (arith, q.slices.bytes, q.long))
+    pub gathering_room : (k * 4 + 4 ≤ length rs) × RectIn w h (rect_at rs k) × (at ≤ text_bytes) × (text_bytes + 4 ≤ length out)
+    gathering_room = (omega (arith, q.slices.rects), q.slices.inside k l, q.room, omega (arith, q.slices.bytes, q.long))
 
     -- its span has room
     here : k * 2 + 2 ≤ length s

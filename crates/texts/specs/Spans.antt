@@ -19,8 +19,7 @@ SpansIn (Ok used) bytes spans n =
 SpansIn (Err r) bytes spans n = Unit {0}
 
 -- the slices that gathering is handed: n rects that lie in w columns and h rows, and room for 61,440 bytes with the four of a code point more
-pub record Slices (w h : ℕ) (t rs b s : List ℕ) (n : ℕ) : Type 0 where
-  pub text : h * w ≤ length t
+pub record Slices (w h : ℕ) (rs b s : List ℕ) (n : ℕ) : Type 0 where
   pub rects : n * 4 ≤ length rs
   pub inside : (k : ℕ) → k < n → RectIn w h (rect_at rs k)
   pub bytes : text_bytes + 4 ≤ length b

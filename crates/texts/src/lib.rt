@@ -1,8 +1,9 @@
 // The texts of regions: the rows between a frame's sides, trimmed, joined with a blank, as UTF-8.
+// A slice with a place or a count: it is lent by the caller, in C too, as `record` says.
 #![tactic(auto)]
 
 ghost use Rattle.std.specs.Prelude.{◌≡◌, ◌+◌, ◌-◌, ◌*◌, ◌≤◌, ltb, length, take, drop};
-ghost use Rattle.lists.specs.Picture.{canvas};
+ghost use Rattle.model.specs.Layers.{picture_of};
 ghost use Rattle.model.specs.Limits.{text_bytes};
 ghost use Rattle.rects.specs.Rects.{rect_at, rects_of, RectIn};
 ghost use Rattle.utf8.specs.Utf8.{encodes};
@@ -11,6 +12,7 @@ ghost use Rattle.texts.specs.Rows.{next};
 ghost use Rattle.texts.specs.Spans.{gathered_in, SpansIn, Slices, PutAt};
 
 use model::Refusal;
+use model::layer::Layer;
 use model::limits::TEXT_BYTES;
 
 // The characters from one place up to another, into the bytes from `at` on.
@@ -57,26 +59,20 @@ fn put_next(
 }
 
 // The text of rect k, into the bytes from `start` on. Each row's part is read where it lies.
-fn put_text(
-    text: &[u32],
-    w: usize,
-    h: usize,
-    rects: &[u32],
-    k: usize,
-    bytes: &mut [u8],
-    start: usize,
-) -> usize
-    requires { (h * w ≤ length text.now) × (k * 4 + 4 ≤ length rects.now) × RectIn w h (rect_at rects.now k) × (start ≤ text_bytes) × (text_bytes + 4 ≤ length bytes.old) }
-    ensures { PutAt (text_of (canvas w h text.now) (rect_at rects.now k)) bytes.old bytes.new start result }
+fn put_text(text: Layer, rects: &[u32], k: usize, bytes: &mut [u8], start: usize) -> usize
+    requires { (k * 4 + 4 ≤ length rects.now) × RectIn text.width text.height (rect_at rects.now k) × (start ≤ text_bytes) × (text_bytes + 4 ≤ length bytes.old) }
+    ensures { PutAt (text_of (picture_of text.entry) (rect_at rects.now k)) bytes.old bytes.new start result }
 {
     let r = rects::rect_at(rects, k);
     let from = r.left + 1;
     let to = r.right - 1;
     let bottom = r.bottom - 1;
+    let codes = text.codes;
+    let w = text.width;
     let mut at = start;
     for y in r.top + 1..bottom {
-        let part = white_space::trim_codes_part(text, y * w + from, y * w + to);
-        at = put_next(text, part.from, part.to, bytes, start, at);
+        let part = white_space::trim_codes_part(codes, y * w + from, y * w + to);
+        at = put_next(codes, part.from, part.to, bytes, start, at);
         if TEXT_BYTES < at {
             return TEXT_BYTES + 1;
         }
@@ -86,21 +82,19 @@ fn put_text(
 
 // The texts of the first n rects, one behind the other, and where each stands.
 pub fn gather(
-    text: &[u32],
-    w: usize,
-    h: usize,
+    text: Layer,
     rects: &[u32],
     n: usize,
     bytes: &mut [u8],
     spans: &mut [u32],
 ) -> Result<usize, Refusal>
-    requires { Slices w h text.now rects.now bytes.old spans.old n }
-    ensures answer { gathered_in result bytes.new spans.new n ≡ texts_of (canvas w h text.now) (rects_of rects.now n) }
+    requires { Slices text.width text.height rects.now bytes.old spans.old n }
+    ensures answer { gathered_in result bytes.new spans.new n ≡ texts_of (picture_of text.entry) (rects_of rects.now n) }
     ensures spans { SpansIn result bytes.new spans.new n }
 {
     let mut at = 0;
     for k in 0..n {
-        let e = put_text(text, w, h, rects, k, bytes, at);
+        let e = put_text(text, rects, k, bytes, at);
         if TEXT_BYTES < e {
             return Err(Refusal::OverLimit);
         }

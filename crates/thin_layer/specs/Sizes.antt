@@ -1,15 +1,11 @@
 -- Sizes that the passes ask for: a canvas of w columns and h rows, and a body within it.
-use Rattle.std.specs.Prelude.{List, ℕ, ◌*◌, ◌≤◌, ◌<◌, length}
+use Rattle.std.specs.Prelude.{ℕ, ◌≤◌, ◌<◌}
 use Rattle.model.specs.declared.Rect.{Rect}
 
--- the four layers hold the canvas
-pub record LayersOf (w h : ℕ) (t m b g : List ℕ) : Type 0 where
+-- a canvas whose columns and rows are few enough to be counted in a machine's words
+pub record Bounded (w h : ℕ) : Type 0 where
   pub narrow : w ≤ 65536
   pub low : h ≤ 65536
-  pub text : h * w ≤ length t
-  pub thin : h * w ≤ length m
-  pub body : h * w ≤ length b
-  pub grid : h * w ≤ length g
 
 -- the body lies in the canvas
 pub record BodyIn (w h : ℕ) (r : Rect) : Type 0 where

@@ -1,12 +1,13 @@
 // The layer THIN of a canvas, from TEXT.
 #![tactic(auto)]
 
-ghost use Rattle.std.specs.Prelude.{◌≡◌, ◌<◌, length, get_or, set};
+ghost use Rattle.std.specs.Prelude.{◌≡◌, ◌*◌, ◌≤◌, length};
 ghost use Rattle.lists.specs.Picture.{canvas};
-ghost use Rattle.thin_layer.specs.Thin.{thin_of, thin_layers, thin_picture};
-ghost use Rattle.thin_layer.specs.Sizes.{LayersOf};
+ghost use Rattle.model.specs.Layers.{picture_of};
+ghost use Rattle.thin_layer.specs.Thin.{thin_of, thin_picture};
 
 use model::box_drawing::*;
+use model::layer::Layer;
 
 // THIN's character of TEXT's.
 fn thin_code(t: u32) -> u32
@@ -43,47 +44,21 @@ fn thin_code(t: u32) -> u32
     }
 }
 
-// The four layers of a character, with THIN made from TEXT.
-fn thin(c: [u32; 4]) -> [u32; 4]
-    ensures { result ≡ thin_layers c }
-{
-    let t = c[0];
-    let mut out = c;
-    out[1] = thin_code(t);
-    out
-}
-
-fn thin_at(text: &[u32], thins: &mut [u32], body: &[u32], grid: &[u32], i: usize)
-    requires { (i < length text.now) × ((i < length thins.old) × ((i < length body.now) × (i < length grid.now))) }
-    ensures { thins.new ≡ set thins.old i (thin_of (get_or text.now i 0)) }
-{
-    let c = thin([text[i], thins[i], body[i], grid[i]]);
-    thins[i] = c[1];
-}
-
 // THIN of TEXT. The last character that was looked up is kept with what was made of it, for equal neighbours.
-pub fn make_thin(
-    text: &[u32],
-    thins: &mut [u32],
-    body: &[u32],
-    grid: &[u32],
-    width: usize,
-    rows: usize,
-)
-    requires { LayersOf width rows text.now thins.old body.now grid.now }
-    ensures { canvas width rows thins.new ≡ thin_picture width rows (canvas width rows text.now) }
+pub fn make_thin(text: Layer, thins: &mut [u32])
+    requires { text.height * text.width ≤ length thins.old }
+    ensures { canvas text.entry.width text.entry.height thins.new ≡ thin_picture text.entry.width text.entry.height (picture_of text.entry) }
 {
-    let n = rows * width;
+    let codes = text.codes;
+    let n = text.height * text.width;
     let mut kept = SPACE;
     let mut made = SPACE;
     for i in 0..n {
-        let code = text[i];
-        if code == kept {
-            thins[i] = made;
-        } else {
-            thin_at(text, thins, body, grid, i);
+        let code = codes[i];
+        if code != kept {
             kept = code;
-            made = thins[i];
+            made = thin_code(code);
         }
+        thins[i] = made;
     }
 }

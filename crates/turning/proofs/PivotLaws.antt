@@ -8,6 +8,7 @@ use native.Mathlib.Omega.{arith}
 use borrow.Author.Tests.{lt-ltb}
 use lib.ListN.{length, get_or, drop}
 use Rattle.lists.specs.Run.{run, build}
+use Rattle.lists.specs.Transpose.{width}
 use Rattle.model.specs.Cells.{turned_cell}
 use Rattle.model.specs.Refusals.{Reading}
 use Rattle.model.specs.declared.Orientation.{Orientation}
@@ -32,17 +33,21 @@ pub pivot_none : (d : List ℕ) (n : ℕ) → n ≡ 0 → Err PlaneMalformed ≡
 unfolding pivot_of
 pivot_none d n e = let z : length (plane_in d n) ≡ 0 = length-plane d n ∙ e in rw z
 
-module _ (d : List ℕ) (n : ℕ) (h : 0 < n) where
-  pub pivot_narrow : wide (get_or d 0 0) (plane_in d n) ≡ false → Err PlaneMalformed ≡ pivot_of (plane_in d n)
-  unfolding pivot_of
-  pivot_narrow e = rw (length-plane d n, lt-ltb 0 n h, plane-width d n h, e)
+-- its first row has w cells
+module _ (d : List ℕ) (n w : ℕ) (h : 0 < n) (e : w ≡ get_or d 0 0) where
+  first-wide : width (plane_in d n) ≡ w
+  first-wide = plane-width d n h ∙ sym e
 
-  pub pivot_wide : (out : List ℕ) → wide (get_or d 0 0) (plane_in d n) ≡ true
-      → plane_in out (get_or d 0 0) ≡ build (get_or d 0 0) (λ j. build n (λ i. turned_cell (cell_at d i j))) → Ok (plane_in out (get_or d 0 0)) ≡ pivot_of (plane_in d n)
+  pub pivot_narrow : wide w (plane_in d n) ≡ false → Err PlaneMalformed ≡ pivot_of (plane_in d n)
   unfolding pivot_of
-  pivot_wide out e q =
-      let z = q ∙ columns-turned d n (get_or d 0 0) e (plane-width d n h) in
-      rw (z, length-plane d n, lt-ltb 0 n h, plane-width d n h, e)
+  pivot_narrow f = rw (length-plane d n, lt-ltb 0 n h, first-wide, f)
+
+  pub pivot_wide : (out : List ℕ) → wide w (plane_in d n) ≡ true
+      → plane_in out w ≡ build w (λ j. build n (λ i. turned_cell (cell_at d i j))) → Ok (plane_in out w) ≡ pivot_of (plane_in d n)
+  unfolding pivot_of
+  pivot_wide out t q =
+      let z = q ∙ columns-turned d n w t first-wide in
+      rw (z, length-plane d n, lt-ltb 0 n h, first-wide, t)
 
 module _ (o : Orientation) (d : List ℕ) (n : ℕ) where
   pub row-sheet : (out : List ℕ) → o ≡ RulesAsRows → plane_in out n ≡ map (drop 1) (plane_in d n) → Ok (plane_in out n) ≡ upright_of o (plane_in d n)

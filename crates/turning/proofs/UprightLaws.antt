@@ -33,11 +33,6 @@ pub dropped : (d : List ℕ) (n : ℕ) → map (drop 1) (plane_in d n) ≡ build
 unfolding plane_in
 dropped d n = map-run (drop 1) (row_in d) 0 n
 
--- an empty row stays empty
-pub no_cells : (d out : List ℕ) (row : ℕ) → get_or d row 0 ≡ 0 → cells_in out row 0 ≡ drop 1 (row_in d row)
-unfolding cells_in run
-no_cells d out row e = rw e
-
 -- rows from the k-th on are wide
 module _ (w : ℕ) (d : List ℕ) where
   abbrev pub wide_from : ℕ → ℕ → Bool

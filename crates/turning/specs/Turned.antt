@@ -1,13 +1,7 @@
 -- What turning answers, with the slice that holds the turned plane.
-use Rattle.std.specs.Prelude.{List, ℕ, ◌≤◌, length, Ok, Err}
-use Rattle.model.specs.Limits.{plane_size}
+use Rattle.std.specs.Prelude.{List, ℕ, Ok, Err}
 use Rattle.model.specs.Refusals.{Reading}
 use Rattle.cells.specs.Plane.{Plane, plane_in, PlaneFits}
-
--- a plane of n rows in one slice, and room for one in another
-pub record Planes (d : List ℕ) (n : ℕ) (out : List ℕ) : Type 0 where
-  pub fits : PlaneFits d n
-  pub room : plane_size ≤ length out
 
 -- an answer's plane
 abbrev pub turned_in : Reading ℕ → List ℕ → Reading Plane

@@ -2,3 +2,4 @@
 pub mod Utf8Laws
 pub mod Inverse
 pub mod RareLaws
+mod MoreLaws

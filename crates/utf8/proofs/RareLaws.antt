@@ -1,8 +1,9 @@
 -- Laws of what stands at a place, told by its code point or by its number of bytes alone.
+use Rattle.std.specs.Prelude.{Some, None}
 use mathlib.Core.Path.{◌≡◌, refl, sym, ap, ◌∙◌}
 use mathlib.Core.Bool.{Bool, true, false}
 use mathlib.Core.List.{List, [], ◌∷◌}
-use Prim.Native.Nat.{ℕ, ◌≤◌, ◌<◌}
+use Prim.Native.Nat.{ℕ, ◌<◌}
 use native.Mathlib.Omega.{arith}
 use lib.ListN.{length, get_or, take, drop, length-drop}
 use lib.Dec.{leb}
@@ -11,8 +12,8 @@ use Rattle.lists.proofs.Parts.{at_cons}
 use Rattle.utf8.specs.declared.Decoded.{Decoded}
 use Rattle.utf8.specs.declared.Decoded.TheVariants.{Char, IllFormed, End}
 use Rattle.utf8.specs.Utf8.{decode, encode}
-use Rattle.utf8.specs.Passed.{code_of, bytes_of}
-use Rattle.utf8.proofs.Utf8Laws.{decode-none, char_fits, encode1}
+use Rattle.utf8.specs.Passed.{code_in, bytes_in, code_of}
+use Rattle.utf8.proofs.Utf8Laws.{decode-none, encode1}
 use Rattle.utf8.proofs.Inverse.{encode-decode, decode-size}
 
 module _ (s : List ℕ) (at : ℕ) (h : at < length s) where
@@ -33,34 +34,46 @@ module _ (s : List ℕ) (at : ℕ) (h : at < length s) where
           absurd (omega arith)
       go false q = leb-false c 0x7F q
 
-  pub told_bad : 0x7F < get_or s at 0 → (c : ℕ) → c ≡ code_of (decode (drop at s)) → c ≤ 0x7F → decode (drop at s) ≡ IllFormed
-  told_bad p c q l = go (decode (drop at s)) refl q
+  -- so is a code point that stands there
+  pub high_code : 0x7F < get_or s at 0 → (c : ℕ) → Some c ≡ code_in (decode (drop at s)) → 0x7F < c
+  high_code p c q = go (decode (drop at s)) refl q
     where
-      go : (d : Decoded) → decode (drop at s) ≡ d → c ≡ code_of d → decode (drop at s) ≡ IllFormed
-      go (Char x n) e w = let g = high p x n e in absurd (omega arith)
+      go : (d : Decoded) → decode (drop at s) ≡ d → Some c ≡ code_in d → 0x7F < c
+      go (Char x n) e w = let k : c ≡ x = cc in rw k (high p x n e)
+      go IllFormed e w = absurd cc
+      go End e w = absurd cc
+
+  pub bad_code : None ≡ code_in (decode (drop at s)) → decode (drop at s) ≡ IllFormed
+  bad_code q = go (decode (drop at s)) refl q
+    where
+      go : (d : Decoded) → decode (drop at s) ≡ d → None ≡ code_in d → decode (drop at s) ≡ IllFormed
+      go (Char x n) e w = absurd cc
       go IllFormed e w = e
       go End e w = absurd (some e)
 
-  pub passed_bad : (n : ℕ) → n ≡ bytes_of (decode (drop at s)) → n ≡ 0 → decode (drop at s) ≡ IllFormed
-  passed_bad n q z = go (decode (drop at s)) refl q
+  pub bad_bytes : None ≡ bytes_in (decode (drop at s)) → decode (drop at s) ≡ IllFormed
+  bad_bytes q = go (decode (drop at s)) refl q
     where
-      go : (d : Decoded) → decode (drop at s) ≡ d → n ≡ bytes_of d → decode (drop at s) ≡ IllFormed
-      go (Char x m) e w = let g = char_fits s at x m e (omega arith) in absurd (omega arith)
+      go : (d : Decoded) → decode (drop at s) ≡ d → None ≡ bytes_in d → decode (drop at s) ≡ IllFormed
+      go (Char x n) e w = absurd cc
       go IllFormed e w = e
       go End e w = absurd (some e)
 
-pub told : (s : List ℕ) (c n : ℕ) → c ≡ code_of (decode s) → 0x7F < c → length (encode c) ≡ n → decode s ≡ Char c n
-told s c n q l z = go (decode s) refl q
+pub told_code : (s : List ℕ) (c n : ℕ) → Some c ≡ code_in (decode s) → length (encode c) ≡ n → decode s ≡ Char c n
+told_code s c n q z = go (decode s) refl q
   where
-    go : (d : Decoded) → decode s ≡ d → c ≡ code_of d → decode s ≡ Char c n
-    go (Char x m) e w = let k : m ≡ n = decode-size s x m e ∙ sym (ap (λ (y : ℕ). length (encode y)) w) ∙ z in e ∙ rw (k, w)
-    go IllFormed e w = absurd (omega arith)
-    go End e w = absurd (omega arith)
+    go : (d : Decoded) → decode s ≡ d → Some c ≡ code_in d → decode s ≡ Char c n
+    go (Char x m) e w =
+        let v : c ≡ x = cc in
+        let k : m ≡ n = decode-size s x m e ∙ sym (ap (λ (y : ℕ). length (encode y)) v) ∙ z in
+        e ∙ rw (k, v)
+    go IllFormed e w = absurd cc
+    go End e w = absurd cc
 
-pub passed_char : (s : List ℕ) (n : ℕ) → n ≡ bytes_of (decode s) → (n ≡ 0 → ⊥) → decode s ≡ Char (code_of (decode s)) n
-passed_char s n q f = go (decode s) refl q
+pub told_bytes : (s : List ℕ) (n : ℕ) → Some n ≡ bytes_in (decode s) → decode s ≡ Char (code_of (decode s)) n
+told_bytes s n q = go (decode s) refl q
   where
-    go : (d : Decoded) → decode s ≡ d → n ≡ bytes_of d → d ≡ Char (code_of d) n
-    go (Char x m) e w = rw w
-    go IllFormed e w = absurd (f w)
-    go End e w = absurd (f w)
+    go : (d : Decoded) → decode s ≡ d → Some n ≡ bytes_in d → d ≡ Char (code_of d) n
+    go (Char x m) e w = let v : n ≡ m = cc in rw v
+    go IllFormed e w = absurd cc
+    go End e w = absurd cc

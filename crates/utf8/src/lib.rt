@@ -1,9 +1,11 @@
 // UTF-8 read: what stands at a place of the bytes.
+// A place in a text is an index into all of it, here and in the crates above: a refusal and the end of a drawing are told so, and a part of the
+// text would not know where it stands.
 #![tactic(auto)]
 
-ghost use Rattle.std.specs.Prelude.{[], ◌∷◌, ◌≡◌, ◌+◌, ◌-◌, ◌<◌, ◌≤◌, length, drop};
+ghost use Rattle.std.specs.Prelude.{[], ◌∷◌, ◌≡◌, ◌+◌, ◌-◌, ◌<◌, ◌≤◌, length, drop, replicate};
 ghost use Rattle.utf8.specs.Utf8.{more, decode, tail, ◌–◌};
-ghost use Rattle.utf8.specs.Passed.{code_of, bytes_of};
+ghost use Rattle.utf8.specs.Passed.{code_in, bytes_in, CodeFits};
 
 // What stands at a place: a code point with its number of bytes, an ill-formed sequence, or nothing.
 #[derive(Clone, Copy)]
@@ -13,10 +15,10 @@ pub enum Decoded {
     End,
 }
 
-// One byte that follows, in lo to hi.
-fn more1(s: &[u8], at: usize, lo: u8, hi: u8, code: u32, n: usize) -> Decoded
-    requires { (128 ≤ lo) × (hi ≤ 191) × (code < 32768) × (n < 4) }
-    ensures { result ≡ more ((lo – hi) ∷ []) code n (drop at s.now) }
+// Bytes that follow: one in lo to hi, and `left` more.
+fn more(s: &[u8], at: usize, lo: u8, hi: u8, code: u32, n: usize, left: usize) -> Decoded
+    requires { (128 ≤ lo) × (hi ≤ 191) × CodeFits code left × (left ≤ 2) × (n + left ≤ 3) }
+    ensures { result ≡ more ((lo – hi) ∷ replicate left tail) code n (drop at s.now) }
 {
     if s.len() <= at {
         return Decoded::IllFormed;
@@ -28,43 +30,11 @@ fn more1(s: &[u8], at: usize, lo: u8, hi: u8, code: u32, n: usize) -> Decoded
     if hi < b {
         return Decoded::IllFormed;
     }
-    Decoded::Char(code * 64 + ((b - 128) as u32), n + 1)
-}
-
-// Two bytes that follow, the first in lo to hi.
-fn more2(s: &[u8], at: usize, lo: u8, hi: u8, code: u32, n: usize) -> Decoded
-    requires { (128 ≤ lo) × (hi ≤ 191) × (code < 512) × (n < 3) }
-    ensures { result ≡ more ((lo – hi) ∷ tail ∷ []) code n (drop at s.now) }
-{
-    if s.len() <= at {
-        return Decoded::IllFormed;
+    let read = code * 64 + ((b - 128) as u32);
+    if left == 0 {
+        return Decoded::Char(read, n + 1);
     }
-    let b = s[at];
-    if b < lo {
-        return Decoded::IllFormed;
-    }
-    if hi < b {
-        return Decoded::IllFormed;
-    }
-    more1(s, at + 1, 128, 191, code * 64 + ((b - 128) as u32), n + 1)
-}
-
-// Three bytes that follow, the first in lo to hi.
-fn more3(s: &[u8], at: usize, lo: u8, hi: u8, code: u32, n: usize) -> Decoded
-    requires { (128 ≤ lo) × (hi ≤ 191) × (code < 8) × (n < 2) }
-    ensures { result ≡ more ((lo – hi) ∷ tail ∷ tail ∷ []) code n (drop at s.now) }
-{
-    if s.len() <= at {
-        return Decoded::IllFormed;
-    }
-    let b = s[at];
-    if b < lo {
-        return Decoded::IllFormed;
-    }
-    if hi < b {
-        return Decoded::IllFormed;
-    }
-    more2(s, at + 1, 128, 191, code * 64 + ((b - 128) as u32), n + 1)
+    more(s, at + 1, 128, 191, read, n + 1, left - 1)
 }
 
 // What stands at a place of the bytes, by all rows of the table.
@@ -83,28 +53,28 @@ fn from_table(s: &[u8], at: usize) -> Decoded
     }
     let b = at + 1;
     if a <= 0xDF {
-        return more1(s, b, 0x80, 0xBF, (a - 0xC0) as u32, 1);
+        return more(s, b, 0x80, 0xBF, (a - 0xC0) as u32, 1, 0);
     }
     if a <= 0xE0 {
-        return more2(s, b, 0xA0, 0xBF, (a - 0xE0) as u32, 1);
+        return more(s, b, 0xA0, 0xBF, (a - 0xE0) as u32, 1, 1);
     }
     if a <= 0xEC {
-        return more2(s, b, 0x80, 0xBF, (a - 0xE0) as u32, 1);
+        return more(s, b, 0x80, 0xBF, (a - 0xE0) as u32, 1, 1);
     }
     if a <= 0xED {
-        return more2(s, b, 0x80, 0x9F, (a - 0xE0) as u32, 1);
+        return more(s, b, 0x80, 0x9F, (a - 0xE0) as u32, 1, 1);
     }
     if a <= 0xEF {
-        return more2(s, b, 0x80, 0xBF, (a - 0xE0) as u32, 1);
+        return more(s, b, 0x80, 0xBF, (a - 0xE0) as u32, 1, 1);
     }
     if a <= 0xF0 {
-        return more3(s, b, 0x90, 0xBF, (a - 0xF0) as u32, 1);
+        return more(s, b, 0x90, 0xBF, (a - 0xF0) as u32, 1, 2);
     }
     if a <= 0xF3 {
-        return more3(s, b, 0x80, 0xBF, (a - 0xF0) as u32, 1);
+        return more(s, b, 0x80, 0xBF, (a - 0xF0) as u32, 1, 2);
     }
     if a <= 0xF4 {
-        return more3(s, b, 0x80, 0x8F, (a - 0xF0) as u32, 1);
+        return more(s, b, 0x80, 0x8F, (a - 0xF0) as u32, 1, 2);
     }
     Decoded::IllFormed
 }
@@ -135,15 +105,14 @@ fn two_more(s: &[u8], at: usize, a: u8) -> Decoded
     )
 }
 
-// The code point that stands at a place, 0 where none does. Stays out of line: `next` and `passed` are small without it.
-fn rare(s: &[u8], at: usize) -> u32
-    ensures { result ≡ code_of (decode (drop at s.now)) }
+// The code point that stands at a place, if one does. Stays out of line: `next` and `passed` are small without it.
+fn rare(s: &[u8], at: usize) -> Option<u32>
+    ensures { result ≡ code_in (decode (drop at s.now)) }
 {
-    let d = from_table(s, at);
-    match d {
-        Decoded::Char(c, _) => c,
-        Decoded::IllFormed => 0,
-        Decoded::End => 0,
+    match from_table(s, at) {
+        Decoded::Char(c, _) => Some(c),
+        Decoded::IllFormed => None,
+        Decoded::End => None,
     }
 }
 
@@ -165,10 +134,9 @@ pub fn next(s: &[u8], at: usize) -> Decoded
             }
         }
     }
-    let c = rare(s, at);
-    if c <= 0x7F {
+    let Some(c) = rare(s, at) else {
         return Decoded::IllFormed;
-    }
+    };
     if c <= 0x7FF {
         return Decoded::Char(c, 2);
     }
@@ -178,42 +146,39 @@ pub fn next(s: &[u8], at: usize) -> Decoded
     Decoded::Char(c, 4)
 }
 
-// How many bytes a code point has, 0 where there is none.
-fn bytes_of(d: Decoded) -> usize
-    ensures { result ≡ bytes_of d }
+// How many bytes a code point has, where there is one.
+fn bytes_in(d: Decoded) -> Option<usize>
+    ensures { result ≡ bytes_in d }
 {
     match d {
-        Decoded::Char(_, n) => n,
-        Decoded::IllFormed => 0,
-        Decoded::End => 0,
+        Decoded::Char(_, n) => Some(n),
+        Decoded::IllFormed => None,
+        Decoded::End => None,
     }
 }
 
-// How many bytes the code point at a place has, 0 where none stands there.
-pub fn passed(s: &[u8], at: usize) -> usize
+// How many bytes the code point at a place has, if one stands there.
+pub fn passed(s: &[u8], at: usize) -> Option<usize>
     requires { at < length s.now }
-    ensures { result ≡ bytes_of (decode (drop at s.now)) }
+    ensures { result ≡ bytes_in (decode (drop at s.now)) }
 {
     let a = s[at];
     if a <= 0x7F {
-        return 1;
+        return Some(1);
     }
     if 0xE0 < a {
         if a <= 0xEC {
             if 2 < s.len() - at {
-                return bytes_of(two_more(s, at, a));
+                return bytes_in(two_more(s, at, a));
             }
         }
     }
-    let c = rare(s, at);
-    if c <= 0x7F {
-        return 0;
-    }
+    let c = rare(s, at)?;
     if c <= 0x7FF {
-        return 2;
+        return Some(2);
     }
     if c <= 0xFFFF {
-        return 3;
+        return Some(3);
     }
-    4
+    Some(4)
 }

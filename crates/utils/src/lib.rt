@@ -1,4 +1,5 @@
 // The value split: the allowed values and the default of an output clause.
+// A slice with a place or a count: it is lent by the caller, in C too, as `record` says.
 #![tactic(auto)]
 
 ghost use Rattle.std.specs.Prelude.{◌≡◌, length, take};
@@ -27,13 +28,12 @@ fn split_text(text: &[u8], scratch: &mut [u8]) -> Result<Option<Rewritten>, Refu
     };
     let part = &text[f.from..f.to];
     let bare = &text[f.a..f.b];
-    let mut t = [0usize; 80];
-    let k = search::periods_of(part, &mut t);
-    let bytes = rewriting::measure(text, part, bare, &t, k);
+    let t = search::periods_of(part);
+    let bytes = rewriting::measure(text, part, bare, t.as_slice());
     if scratch.len() < bytes {
         return Err(Refusal::OutputSliceShort(bytes));
     }
-    rewriting::rewrite(text, part, bare, &t, k, scratch, 0);
+    rewriting::rewrite(text, part, bare, t.as_slice(), scratch, 0);
     Ok(Some(Rewritten {
         bytes,
         from: f.a,

@@ -1,4 +1,5 @@
 // The values of a text: its allowed values and its default, measured and written.
+// A slice with a place or a count: it is lent by the caller, in C too, as `record` says.
 #![tactic(auto)]
 
 ghost use Rattle.std.specs.Prelude.{◌≡◌, ◌+◌, ◌≤◌, length};
@@ -19,9 +20,8 @@ pub fn measure_values(text: &[u8]) -> Option<Measured>
 {
     let f = emphasis::first_marked(text)?;
     let part = &text[f.from..f.to];
-    let mut t = [0usize; 80];
-    let k = search::periods_of(part, &mut t);
-    let bytes = rewriting::measure(text, part, &text[f.a..f.b], &t, k);
+    let t = search::periods_of(part);
+    let bytes = rewriting::measure(text, part, &text[f.a..f.b], t.as_slice());
     Some(Measured {
         bytes,
         from: f.a,
@@ -37,9 +37,8 @@ pub fn put_values(text: &[u8], out: &mut [u8], at: usize) -> usize
 {
     if let Some(f) = emphasis::first_marked(text) {
         let part = &text[f.from..f.to];
-        let mut t = [0usize; 80];
-        let k = search::periods_of(part, &mut t);
-        return rewriting::rewrite(text, part, &text[f.a..f.b], &t, k, out, at);
+        let t = search::periods_of(part);
+        return rewriting::rewrite(text, part, &text[f.a..f.b], t.as_slice(), out, at);
     }
     lists::put_bytes(out, at, text);
     at + text.len()

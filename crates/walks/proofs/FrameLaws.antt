@@ -7,7 +7,7 @@ use mathlib.Core.Logic.{◌↔◌}
 use Prim.Native.Nat.{ℕ, ◌+◌, ◌-◌, ◌<◌}
 use native.Mathlib.Omega.{arith}
 use lib.Dec.{eqb}
-use borrow.Author.Tests.{eq-eqb, ne_eqb, eqb-true}
+use borrow.Author.Tests.{eq-eqb, eqb-true}
 use Rattle.lists.specs.Choose.{choose}
 use Rattle.lists.specs.OneOf.{one_of}
 use Rattle.lists.specs.Picture.{Picture}
@@ -29,15 +29,9 @@ pub record Sound (K : Kind) : Type 0 where
   pub bottom : Apart K.bottom_left K.bottom
   pub left : Apart K.top_left K.left
 
--- the walks ended where they began, or elsewhere
+-- the walks ended where they began
 pub closed : (x y cx cy bx by : ℕ) → cx ≡ x → cy ≡ y → close_of x y cx cy bx by ≡ Ok (rect_of x y bx by)
 closed x y cx cy bx by e f = rw (eq-eqb cx x e, eq-eqb cy y f)
-
-pub open_row : (x y cx cy bx by : ℕ) → cx ≡ x → (cy ≡ y → ⊥) → close_of x y cx cy bx by ≡ Err (RectangleNotClosed cx cy)
-open_row x y cx cy bx by e f = rw (eq-eqb cx x e, ne_eqb cy y f)
-
-pub open_column : (x y cx cy bx by : ℕ) → (cx ≡ x → ⊥) → close_of x y cx cy bx by ≡ Err (RectangleNotClosed cx cy)
-open_column x y cx cy bx by e = rw (ne_eqb cx x e)
 
 record Shut (x y cx cy bx by : ℕ) (r : Rect) : Type 0 where
   column : cx ≡ x

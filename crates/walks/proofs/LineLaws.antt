@@ -41,24 +41,25 @@ reach_in false at step n len k r h =
     let m : k * step ≤ n * step = mul-le-mul_right step h in
     omega arith
 
-module _ (w h x y len : ℕ) (P : Place w h x y len) where
+module _ (w h x y len : ℕ) (P : Place w h x y) (size : h * w ≤ len) where
   pub place_in : y * w + x < len
-  place_in = place-fits h w x y len P.column P.row P.size
+  place_in = place-fits h w x y len P.column P.row size
 
   row_end : y * w + w ≤ len
   row_end =
       let m : suc y * w ≤ h * w = mul-le-mul_right w P.row in
-      omega (arith, suc-mul y w, P.size)
+      omega (arith, suc-mul y w, size)
 
   pub dir_reach : (d : Direction) → Reach (back_of d) (y * w + x) (step_of d w) (ahead d w h x y) len
   dir_reach Right = omega (arith, row_end, P.column)
   dir_reach Down =
       let q : h ≡ h - 1 - y + (y + 1) = omega (arith, P.row) in
       let e : h * w ≡ (h - 1 - y) * w + (y * w + w) = ap (λ (n : ℕ). n * w) q ∙ add-mul (h - 1 - y) (y + 1) w ∙ rw next_mul in
-      omega (arith, P.column, P.size)
+      omega (arith, P.column, size)
   dir_reach Left = omega (arith, place_in)
   dir_reach Up = omega (arith, place_in)
 
+module _ (w h x y : ℕ) (P : Place w h x y) where
   -- the character k steps away stands where the line has it
   dir_char : (d : Direction) (l : List ℕ) (k : ℕ) → k ≤ ahead d w h x y → line_of l (back_of d) (y * w + x) (step_of d w) k ≡ ray d (canvas w h l) x y k
   dir_char Right l k b =

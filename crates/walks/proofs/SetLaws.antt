@@ -1,5 +1,5 @@
 -- One computed test says that a walk is given what it needs for two lists: `sought`.
-use mathlib.Core.Path.{◌≡◌, refl, sym, ap, ◌∙◌, subst}
+use mathlib.Core.Path.{◌≡◌, refl, sym, ap, ◌∙◌}
 use mathlib.Core.Bool.{Bool, true, false, not, ◌&&◌, beq}
 use mathlib.Core.List.{List, [], ◌∷◌}
 use Prim.Native.Nat.{ℕ, ◌+◌, ◌-◌, ◌/◌, ◌%◌, ◌^◌, ◌≤◌, ◌<◌}
@@ -106,6 +106,3 @@ sought c s a e =
       passes = set_of c.allowed a t.1;
       line = passed s a c.line o.1;
     }
-
-pub told : {r c : Characters} {s a : List ℕ} → r ≡ c → soughtb c s a ≡ true → Sought r s a
-told {r} {c} {s} {a} e t = subst (λ (q : Characters). Sought q s a) (sym e) (sought c s a t)

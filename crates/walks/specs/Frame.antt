@@ -1,6 +1,6 @@
 -- Frames: by four walks, for the refusals, and by the characters on their sides, which is document 01's definition.
-use Rattle.std.specs.Prelude.{true, ◌&&◌, List, ◌≡◌, ℕ, ◌+◌, ◌-◌, ◌*◌, ◌≤◌, ◌<◌, eqb, Ok, Err}
-use Rattle.lists.specs.Answer.{◌>>=◌, ◌>>◌}
+use Rattle.std.specs.Prelude.{true, ◌&&◌, List, ◌≡◌, ℕ, ◌+◌, ◌-◌, ◌<◌, eqb, Ok, Err}
+use Rattle.lists.specs.Answer.{◌>>=◌}
 use Rattle.lists.specs.Choose.{choose}
 use Rattle.lists.specs.OneOf.{one_of}
 use Rattle.lists.specs.Picture.{Picture}
@@ -64,8 +64,7 @@ pub record Starts (K : Kind) (p : Picture) (w h x y : ℕ) (r : Rect) : Type 0 w
   pub is : r ≡ rect_of x y bx by
   pub frame : Frame K p w h x y bx by
 
--- a place of a picture of w columns and h rows, which a list of `len` characters holds
-pub record Place (w h x y len : ℕ) : Type 0 where
+-- a place of a picture of w columns and h rows
+pub record Place (w h x y : ℕ) : Type 0 where
   pub column : x < w
   pub row : y < h
-  pub size : h * w ≤ len

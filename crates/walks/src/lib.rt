@@ -1,15 +1,17 @@
 // Walks along the rows and columns of a layer.
 #![tactic(auto)]
 
-ghost use Rattle.std.specs.Prelude.{◌≡◌, List, ℕ, ◌<◌, length};
-ghost use Rattle.lists.specs.Picture.{canvas};
+ghost use Rattle.std.specs.Prelude.{◌≡◌, List, ℕ, length};
+ghost use Rattle.model.specs.Layers.{picture_of};
 ghost use Rattle.walks.specs.Walk.{walk_of, ahead, go_of};
 ghost use Rattle.walks.specs.Frame.{Place};
 ghost use Rattle.walks.specs.Sets.{has_bit, holds, Sought};
 ghost use Rattle.walks.specs.Line.{back_of, step_of, line_of, Reach, next_of, NextFits};
 
-use model::{Rect, Refusal};
+use model::layer::Layer;
+use model::{Point, Rect, Refusal};
 
+// A value: a walk reads its characters and its step by it once, before the loop. A closure for each step would be no plainer.
 #[derive(Clone, Copy)]
 pub enum Direction {
     Right,
@@ -74,21 +76,21 @@ fn holds(set: Set, code: u32) -> bool
 // Over `count` characters of a layer from `at`, which itself is not looked at. The last character that passed is kept, at first that of the
 // line, and passed again with no test: a side is a long run of one.
 fn walk_line(
-    layer: &[u32],
+    codes: &[u32],
     back: bool,
     at: usize,
     step: usize,
     count: usize,
     c: Characters,
 ) -> Result<usize, Refusal>
-    requires { Reach back at step count (length layer.now) }
-    ensures { (s a : List ℕ) → Sought c s a → result ≡ walk_of (line_of layer.now back at step) s a count }
+    requires { Reach back at step count (length codes.now) }
+    ensures { (s a : List ℕ) → Sought c s a → result ≡ walk_of (line_of codes.now back at step) s a count }
 {
     let mut p = at;
     let mut kept = c.line;
     for k in 0..count {
         p = next(back, p, step);
-        let code = layer[p];
+        let code = codes[p];
         if code != kept {
             if holds(c.searched, code) {
                 return Ok(k + 1);
@@ -127,37 +129,29 @@ fn step_of(d: Direction, w: usize) -> usize
 }
 
 // How many characters lie ahead.
-fn ahead(d: Direction, w: usize, h: usize, x: usize, y: usize) -> usize
-    requires { (x < w) × (y < h) }
-    ensures { result ≡ ahead d w h x y }
+fn ahead(d: Direction, layer: Layer, at: Point) -> usize
+    requires { Place layer.width layer.height at.x at.y }
+    ensures { result ≡ ahead d layer.entry.width layer.entry.height at.x at.y }
 {
     match d {
-        Direction::Right => w - 1 - x,
-        Direction::Down => h - 1 - y,
-        Direction::Left => x,
-        Direction::Up => y,
+        Direction::Right => layer.width - 1 - at.x,
+        Direction::Down => layer.height - 1 - at.y,
+        Direction::Left => at.x,
+        Direction::Up => at.y,
     }
 }
 
-// Walks from column x of row y of w columns and h rows, over allowed characters to a searched one.
-pub fn go(
-    d: Direction,
-    layer: &[u32],
-    w: usize,
-    h: usize,
-    x: usize,
-    y: usize,
-    c: Characters,
-) -> Result<usize, Refusal>
-    requires { Place w h x y (length layer.now) }
-    ensures { (s a : List ℕ) → Sought c s a → result ≡ go_of d (canvas w h layer.now) w h x y s a }
+// Walks from a place of a layer, over allowed characters to a searched one.
+pub fn go(d: Direction, layer: Layer, at: Point, c: Characters) -> Result<usize, Refusal>
+    requires { Place layer.width layer.height at.x at.y }
+    ensures { (s a : List ℕ) → Sought c s a → result ≡ go_of d (picture_of layer.entry) layer.entry.width layer.entry.height at.x at.y s a }
 {
     walk_line(
-        layer,
+        layer.codes,
         is_back(d),
-        y * w + x,
-        step_of(d, w),
-        ahead(d, w, h, x, y),
+        at.y * layer.width + at.x,
+        step_of(d, layer.width),
+        ahead(d, layer, at),
         c,
     )
 }

@@ -1,7 +1,8 @@
 // Unicode: White_Space and trimming.
+// Places are indices into the whole text, as in `utf8`.
 #![tactic(auto)]
 
-ghost use Rattle.std.specs.Prelude.{◌≡◌, ◌+◌, ◌-◌, ◌<◌, ◌≤◌, length, drop, take};
+ghost use Rattle.std.specs.Prelude.{◌≡◌, ◌+◌, ◌-◌, ◌<◌, ◌≤◌, ◌^◌, length, drop, take};
 ghost use Rattle.white_space.specs.White.{white};
 ghost use Rattle.white_space.specs.Trim.{trim_start, trim_end, trim, trim_start_utf8, trim_utf8, PartIn};
 ghost use Rattle.white_space.specs.Leading.{Led};
@@ -66,6 +67,19 @@ pub struct Part {
     pub to: usize,
 }
 
+impl Part {
+    // The same part where the slice stands behind so many others.
+    fn behind(self, before: usize) -> Part
+        requires { (before + self.from < 2 ^ 64) × (before + self.to < 2 ^ 64) }
+        ensures { (result.from ≡ before + self.from) × (result.to ≡ before + self.to) }
+    {
+        Part {
+            from: before + self.from,
+            to: before + self.to,
+        }
+    }
+}
+
 // Where the code points without the white space in front start.
 fn codes_start(s: &[u32]) -> usize
     ensures { (result ≤ length s.now) × (drop result s.now ≡ trim_start s.now) }
@@ -109,11 +123,7 @@ pub fn trim_codes_part(s: &[u32], a: usize, e: usize) -> Part
     requires { (a ≤ e) × (e ≤ length s.now) }
     ensures { PartIn s.now a e (trim_start (take (e - a) (drop a s.now))) (trim (take (e - a) (drop a s.now))) result.from result.to }
 {
-    let r = trim_codes(&s[a..e]);
-    Part {
-        from: a + r.from,
-        to: a + r.to,
-    }
+    trim_codes(&s[a..e]).behind(a)
 }
 
 // Past the white space in front of a text in UTF-8, up to what is none or is ill-formed.
@@ -182,9 +192,5 @@ pub fn trim_utf8_part(s: &[u8], a: usize, e: usize) -> Part
     requires { (a ≤ e) × (e ≤ length s.now) }
     ensures { PartIn s.now a e (trim_start_utf8 (take (e - a) (drop a s.now))) (trim_utf8 (take (e - a) (drop a s.now))) result.from result.to }
 {
-    let r = trim_utf8(&s[a..e]);
-    Part {
-        from: a + r.from,
-        to: a + r.to,
-    }
+    trim_utf8(&s[a..e]).behind(a)
 }

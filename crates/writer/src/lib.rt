@@ -1,4 +1,5 @@
 // A table's record, written from slots. A slot names a text: none, a part of the bytes, or the allowed values of a part.
+// A slice with a place or a count: it is lent by the caller, in C too, as `record` says.
 #![tactic(auto)]
 
 ghost use Rattle.std.specs.Prelude.{[], ◌∷◌, ◌≡◌, ◌+◌, ◌*◌, ◌≤◌, ◌<◌, length};

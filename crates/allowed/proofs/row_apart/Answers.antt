@@ -7,8 +7,7 @@ pub loop-i-init : goal.loop-i-init
 loop-i-init c = meet_start _ _ _ _ _ _
 
 pub is_met-requires : goal.is_met-requires
-is_met-requires c =
-    record { plane_size_in_bounds = (c.requires.plane_fits.0.room, c.requires.plane_fits.1, c.requires.plane_fits.2, c.loop-i.invariant.within); le_y = c.requires.le_y }
+is_met-requires c = (c.requires.0, c.requires.1, c.loop-i.invariant.within)
 
 pub returns-then-is_met : goal.returns-then-is_met
 returns-then-is_met c =

@@ -9,30 +9,30 @@ use native.Mathlib.Omega.{arith}
 use Rattle.answers.proofs.put_split.Goals as goal
 
 pub slice_bounds-put_values-end : goal.slice_bounds-put_values-end
-slice_bounds-put_values-end c = omega (arith, (places _ _ _ c.requires.3 (c.in-Ok-Some.is ∙ ap Ok (rw c.in-Ok-Some.is at c.in-Ok-Some.field-0-is))).0)
+slice_bounds-put_values-end g c = omega (arith, (places _ _ _ c.requires.3 (c.in-Ok-Some.is ∙ ap Ok (rw c.in-Ok-Some.is at c.in-Ok-Some.field-0-is))).0)
 
 pub slice_bounds-put_values-count-in-Ok-Some : goal.slice_bounds-put_values-count-in-Ok-Some
-slice_bounds-put_values-count-in-Ok-Some c = omega (arith, (places _ _ _ c.requires.3 (c.in-Ok-Some.is ∙ ap Ok (rw c.in-Ok-Some.is at c.in-Ok-Some.field-0-is))).1)
+slice_bounds-put_values-count-in-Ok-Some g c = omega (arith, (places _ _ _ c.requires.3 (c.in-Ok-Some.is ∙ ap Ok (rw c.in-Ok-Some.is at c.in-Ok-Some.field-0-is))).1)
 
 pub slice_bounds-put_values-start-in-Ok-Some : goal.slice_bounds-put_values-start-in-Ok-Some
-slice_bounds-put_values-start-in-Ok-Some c = omega (arith, (places _ _ _ c.requires.3 (c.in-Ok-Some.is ∙ ap Ok (rw c.in-Ok-Some.is at c.in-Ok-Some.field-0-is))).1)
+slice_bounds-put_values-start-in-Ok-Some g c = omega (arith, (places _ _ _ c.requires.3 (c.in-Ok-Some.is ∙ ap Ok (rw c.in-Ok-Some.is at c.in-Ok-Some.field-0-is))).1)
 
 pub slice_bounds-put_values-end-in-Ok-Some : goal.slice_bounds-put_values-end-in-Ok-Some
-slice_bounds-put_values-end-in-Ok-Some c = omega (arith, (places _ _ _ c.requires.3 (c.in-Ok-Some.is ∙ ap Ok (rw c.in-Ok-Some.is at c.in-Ok-Some.field-0-is))).2)
+slice_bounds-put_values-end-in-Ok-Some g c = omega (arith, (places _ _ _ c.requires.3 (c.in-Ok-Some.is ∙ ap Ok (rw c.in-Ok-Some.is at c.in-Ok-Some.field-0-is))).2)
 
 pub put_values-requires : goal.put_values-requires
-put_values-requires c =
+put_values-requires g c =
     omega (arith, c.requires, parts_most _ c.args.text.now c.args.scratch.now (c.in-Ok-Some.is ∙ ap Ok (rw c.in-Ok-Some.is at c.in-Ok-Some.field-0-is)))
 
 pub returns-in-Ok-None : goal.returns-in-Ok-None
-returns-in-Ok-None c =
+returns-in-Ok-None g c =
     written_within (written_as c.put_word.ensures (sym (ap (λ s. printed (answered s c.args.text.now c.args.scratch.now)) (c.in-Ok-None.is ∙ ap Ok (rw c.in-Ok-None.is at c.in-Ok-None.field-0-is))))) (omega arith)
 
 pub returns-in-Ok-Some : goal.returns-in-Ok-Some
-returns-in-Ok-Some c =
+returns-in-Ok-Some g c =
     written_within (written_as c.put_values.ensures (printed-values _ c.args.text.now c.args.scratch.now (c.in-Ok-Some.is ∙ ap Ok (rw c.in-Ok-Some.is at c.in-Ok-Some.field-0-is))))
     (omega (arith, c.requires, parts_most _ c.args.text.now c.args.scratch.now (c.in-Ok-Some.is ∙ ap Ok (rw c.in-Ok-Some.is at c.in-Ok-Some.field-0-is))))
 
 pub returns-in-Err : goal.returns-in-Err
-returns-in-Err c =
+returns-in-Err g c =
     written_within (written_as c.put_refusal.ensures (sym (ap (λ s. printed (answered s c.args.text.now c.args.scratch.now)) c.in-Err.is))) (omega arith)

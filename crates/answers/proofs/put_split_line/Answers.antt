@@ -6,4 +6,4 @@ use Rattle.answers.proofs.put_split_line.Goals as goal
 
 pub returns : goal.returns
 unfolding split_line
-returns c = written_as c.put_split.ensures (ap printed c.split_values-s.ensures.answer)
+returns g c = written_as c.put_split.ensures (ap printed c.split_values-s.ensures.answer)

@@ -4,4 +4,4 @@ use Rattle.answers.proofs.LentLaws.{upright_as}
 use Rattle.answers.proofs.put_stated.Goals as goal
 
 pub returns : goal.returns
-returns c = written_as c.put_upright.ensures (upright_as _ _ c.from.ensures c.from-2.ensures)
+returns g c = written_as c.put_upright.ensures (upright_as _ _ c.from.ensures c.from-2.ensures)

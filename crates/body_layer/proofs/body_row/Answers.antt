@@ -1,5 +1,4 @@
 -- `body_layer::body_row` meets its contract. The invariant: the first k characters of the row are made, in BODY and in GRID.
-use Prim.Native.Nat.{◌-◌}
 use Rattle.thin_layer.proofs.Turning.{turning_start, turning_more, turning_end}
 use Rattle.body_layer.proofs.body_row.Goals as goal
 

@@ -10,21 +10,21 @@ use Rattle.body_layer.proofs.make_body.Goals.{In-loop-y}
 pub loop-y-init : goal.loop-y-init
 loop-y-init c = (turning_start _ _ _, turning_start _ _ _)
 
-row : (c : In-loop-y) (n : ℕ) → c.args.rows * c.args.width ≤ n
-    → c.loop-y.y * c.args.width + c.args.r.left + (c.args.r.right - c.args.r.left) ≤ n
-row c n f = row_fits c.requires.1 c.loop-y.y n c.loop-y-test.true f
+row : (c : In-loop-y) (n : ℕ) → c.args.thins.height * c.args.thins.width ≤ n
+    → c.loop-y.y * c.args.thins.width + c.args.r.left + (c.args.r.right - c.args.r.left) ≤ n
+row c n f = row_fits c.requires.body c.loop-y.y n c.loop-y-test.true f
 
 pub overflow_mul-y : goal.overflow_mul-y
-overflow_mul-y c = omega (arith, row (goal.at.overflow_mul-y c).In-loop-y _ c.requires.0.text, c.well_formed)
+overflow_mul-y c = omega (arith, row (goal.at.overflow_mul-y c).In-loop-y _ c.args.thins.sized, c.well_formed)
 
 pub overflow_add-y : goal.overflow_add-y
-overflow_add-y c = omega (arith, row (goal.at.overflow_add-y c).In-loop-y _ c.requires.0.text, c.well_formed)
+overflow_add-y c = omega (arith, row (goal.at.overflow_add-y c).In-loop-y _ c.args.thins.sized, c.well_formed)
 
 pub body_row-requires : goal.body_row-requires
 body_row-requires c =
-    let l = c.requires.0 in
+    let z = c.requires.sizes in
     let row_in = row (goal.at.body_row-requires c).In-loop-y in
-    omega (arith, row_in _ l.text, row_in _ l.thin, row_in _ l.body, row_in _ l.grid, c.loop-y.invariant)
+    omega (arith, row_in _ c.args.thins.sized, row_in _ z.1, row_in _ z.2, c.loop-y.invariant)
 
 pub loop-y-preserved : goal.loop-y-preserved
 loop-y-preserved c =
@@ -35,5 +35,10 @@ loop-y-preserved c =
 pub returns : goal.returns
 returns c =
     let a = c.args in
-    let p = c.requires in
-    let l = c.loop-y in record { bodies_after = body-canvas a.width a.rows a.r p.1 a.thins.now a.bodies.now _ p.0.body (turning_end l.invariant.0 c.loop-y-test.false); grid_after = shaded_canvas a.width a.rows a.r p.1 a.grid.now _ p.0.grid (turning_end l.invariant.1 c.loop-y-test.false) }
+    let z = c.requires.sizes in
+    let t = a.thins in
+    let l = c.loop-y in
+    record {
+      bodies_after = body-canvas t.width t.height a.r c.requires.body t.codes.now a.bodies.now _ z.1 (turning_end l.invariant.0 c.loop-y-test.false);
+      grid_after = shaded_canvas t.width t.height a.r c.requires.body a.grid.now _ z.2 (turning_end l.invariant.1 c.loop-y-test.false);
+    }

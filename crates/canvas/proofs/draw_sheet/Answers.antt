@@ -51,9 +51,9 @@ returns-in_err-map_err-clause-answer c =
     let q = was_err _ _ c.map_err.ensures.cases _ c.in_err-map_err.was in
     rw (p.1, p.2, q.2) (ill_formed _ _ (whole (goal.at.returns-in_err-map_err-clause-answer c).After-validate_lines ∙ q.1))
 
-pub recognize_outline-requires : goal.recognize_outline-requires
-recognize_outline-requires c =
-    omega (arith, canvas-fits (rows_at c.args.s.now 0) c.in-Ok.c (size (goal.at.recognize_outline-requires c).In-Ok), c.requires.text)
+pub invariant_of-layer : goal.invariant_of-layer
+invariant_of-layer c =
+    record { sized = omega (arith, canvas-fits (rows_at c.args.s.now 0) c.in-Ok.c (size (goal.at.invariant_of-layer c).In-Ok), c.requires.text, c.scan.auto.text) }
 
 pub returns-in_err-outline-clause-answer : goal.returns-in_err-outline-clause-answer
 returns-in_err-outline-clause-answer c =
@@ -64,17 +64,16 @@ pub make_layers-requires : goal.make_layers-requires
 make_layers-requires c =
     let p = c.requires in
     let e = size (goal.at.make_layers-requires c).In-Ok in
-    let n = canvas-fits (rows_at c.args.s.now 0) c.in-Ok.c e in (
-      record {
-        narrow = columns_fit (rows_at c.args.s.now 0) c.in-Ok.c e;
-        low = rows_fit (rows_at c.args.s.now 0) c.in-Ok.c e;
-        text = omega (arith, p.text);
-        thin = omega (arith, p.thin);
-        body = omega (arith, p.body);
-        grid = omega (arith, p.grid);
-      },
-      body_in (rows_at c.args.s.now 0) c.in-Ok.c e c.args.text.now _ c.scan.ensures.layer _ (outline_told (goal.at.make_layers-requires c).In_ok-outline),
-    )
+    let n = canvas-fits (rows_at c.args.s.now 0) c.in-Ok.c e in
+    record {
+      sizes = (
+        record { narrow = columns_fit (rows_at c.args.s.now 0) c.in-Ok.c e; low = rows_fit (rows_at c.args.s.now 0) c.in-Ok.c e },
+        omega (arith, p.thin),
+        omega (arith, p.body),
+        omega (arith, p.grid),
+      );
+      body = body_in (rows_at c.args.s.now 0) c.in-Ok.c e c.args.text.now _ c.scan.ensures.layer _ (outline_told (goal.at.make_layers-requires c).In_ok-outline);
+    }
 
 pub returns-clause-answer : goal.returns-clause-answer
 returns-clause-answer c =

@@ -9,7 +9,7 @@ returns-in_err-s c =
     rw (p.1, p.2) (record { shape = checked_shape_lem _ _ _ _ _ c.spot_of-main.ensures.spot c.spot_of-notes.ensures.spot c.in_err-s.ensures.shape; fits = tt })
 
 pub pass_sizes-requires : goal.pass_sizes-requires
-pass_sizes-requires c = (c.in_ok-s.ensures.fits, c.requires.rows)
+pass_sizes-requires c = let f = c.args.plane.fits in (c.in_ok-s.ensures.fits, f.rows)
 
 pub returns-in_err-pass_sizes : goal.returns-in_err-pass_sizes
 returns-in_err-pass_sizes c =

@@ -13,7 +13,7 @@ returns-in_err-values c =
 
 pub pass_inputs-requires : goal.pass_inputs-requires
 pass_inputs-requires c =
-    (c.requires.0, omega (arith, c.requires.1), some-rows _ _ _ _ _ (sym c.in_ok-values.ensures), c.requires.2)
+    (omega (arith, c.requires.0), some-rows _ _ _ _ _ (sym c.in_ok-values.ensures), c.requires.1)
 
 pub returns-in_err-pass_inputs : goal.returns-in_err-pass_inputs
 returns-in_err-pass_inputs c =
@@ -40,5 +40,5 @@ returns c =
     let w = c.in_ok-a.ensures.fit in
     record {
       shape = at_shape _ _ _ _ _ c.in_ok-values.ensures c.in_ok-pass_inputs.ensures c.in_ok-layout.ensures c.in_ok-pass_rows.ensures c.in_ok-a.ensures.notes;
-      fits = record { columns = w.0; behind = w.1; height = omega (arith, c.requires.2); notes = w.2 };
+      fits = record { columns = w.0; behind = w.1; height = omega (arith, c.requires.1); notes = w.2 };
     }

@@ -6,7 +6,7 @@ use Rattle.clauses.proofs.outputs_end.Goals as goal
 pub returns-in-Some : goal.returns-in-Some
 returns-in-Some c =
     let e = c.in-Some.is in
-    let w = rw e at c.requires.1 in
+    let w = rw e at c.requires in
     record { end = rw e; within = (omega (arith, w.1), spot_in_column e w.0) }
 
 pub returns-in-None : goal.returns-in-None

@@ -1,15 +1,11 @@
 -- `clauses::spot_of` meets its contract.
 use mathlib.Core.Path.{sym}
 use native.Mathlib.Omega.{arith}
-use Rattle.cells.proofs.PlaneLaws.{fewer_rows}
 use Rattle.clauses.proofs.SpotLaws.{rows_start, rows_end, rows-found, rows_next, spot_is, spot_not}
 use Rattle.clauses.proofs.spot_of.Goals as goal
 
 pub loop-y-init : goal.loop-y-init
 loop-y-init c = rows_start _ _ _
-
-pub spot_in_row-spot-requires : goal.spot_in_row-spot-requires
-spot_in_row-spot-requires c = fewer_rows _ _ _ (omega arith) c.requires
 
 pub returns-then-is_some : goal.returns-then-is_some
 returns-then-is_some c =

@@ -9,7 +9,7 @@ use Rattle.cells.specs.Held.{Held}
 use Rattle.sheet_rows.specs.Rows.{rows_at}
 use Rattle.canvas.specs.Drawn.{Shown, Room}
 use Rattle.canvas.specs.Layers.{sheet_of}
-use Rattle.drawn_planes.proofs.DrawnTableLaws.{plane-room, no_plane, with_plane, name_in, not_drawn}
+use Rattle.drawn_planes.proofs.DrawnTableLaws.{grid_in, plane-room, no_plane, with_plane, name_in, not_drawn}
 use Rattle.drawn_planes.proofs.drawn_plane.Goals as goal
 use Rattle.drawn_planes.proofs.drawn_plane.Goals.{In_ok-d, In_ok-p}
 
@@ -26,6 +26,10 @@ pub returns-in_err-d : goal.returns-in_err-d
 returns-in_err-d c =
     let p = err_from_is_err_and c.from_residual.result c.from_residual.ensures.1 in
     rw (p.1, p.2) (record { plane = not_drawn c.args.s.now _ c.in_err-d.ensures.answer; held = tt })
+
+pub invariant_of-layer : goal.invariant_of-layer
+invariant_of-layer c =
+    record { sized = grid_in c.args.s.now c.in_ok-d.d.outline (told (goal.at.invariant_of-layer c).In_ok-d) (shown (goal.at.invariant_of-layer c).In_ok-d) (omega (arith, c.requires.layers.grid, c.draw_sheet.auto.grid)) }
 
 pub read_plane-requires : goal.read_plane-requires
 read_plane-requires c =

@@ -17,7 +17,7 @@ pub plane_table-requires : goal.plane_table-requires
 plane_table-requires c =
     let h = subst (λ (x : Reading DrawnRows). DrawnHeld x c.args.plane.now c.args.bytes.now c.args.spans.now) c.in_ok-d.was c.requires.0 in
     rw c.texts_in.ensures
-    (record { held = h.0; few = omega (arith, length-take text_bytes c.args.bytes.now); sheet = c.requires.2; room = c.requires.3 }, h.1)
+    (record { few = omega (arith, length-take text_bytes c.args.bytes.now); sheet = c.requires.2; room = c.requires.3 }, h.1)
 
 pub returns : goal.returns
 returns c =

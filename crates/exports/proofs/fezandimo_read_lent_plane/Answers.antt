@@ -18,4 +18,4 @@ pub shape_of-out : goal.shape_of-out
 shape_of-out c = c.read_lent_plane-o.auto.out
 
 pub returns : goal.returns
-returns c = let w = end_told _ _ c.outcome_answer.result c.read_lent_plane-o.ensures.end c.outcome_answer.ensures in record { answer = w.0; works = w.1.0; out = w.1.1 }
+returns c = let w = end_told _ _ c.from.result c.read_lent_plane-o.ensures.end c.from.ensures in record { answer = w.0; works = w.1.0; out = w.1.1 }

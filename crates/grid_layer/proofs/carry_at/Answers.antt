@@ -8,4 +8,4 @@ returns-then-grid-at c =
     own_stays a.d c.requires.line_stays a.off a.n a.k a.grid.now a.at c.if-grid-at.true
 
 pub returns : goal.returns
-returns c = rw c.carried-c.ensures
+returns c = rw c.carried_code.ensures

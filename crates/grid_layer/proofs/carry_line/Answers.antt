@@ -1,29 +1,26 @@
 -- `grid_layer::carry_line` meets its contract. The invariant: the first k characters of the line are carried.
 use mathlib.Core.Path.{sym, ◌∙◌}
-use Prim.Native.Nat.{◌+◌, ◌-◌, ◌*◌}
+use Prim.Native.Nat.{◌+◌, ◌*◌, ◌<◌}
 use native.Mathlib.Omega.{arith}
+use lib.ListN.{length}
+use Rattle.grid_layer.specs.Passes.{place_in}
 use Rattle.grid_layer.proofs.CarryLaws.{line_carried_lem, line_stays}
-use Rattle.body_layer.proofs.SizeLaws.{Inside}
 use Rattle.thin_layer.proofs.Turning.{turning_start, turning_more, turning_end}
 use Rattle.grid_layer.proofs.carry_line.Goals as goal
 use Rattle.grid_layer.proofs.carry_line.Goals.{In-loop-k}
 
-pub has_code-requires : goal.has_code-requires
-has_code-requires c = λ k h. (c.requires.by_index k h).1.1.1
-
 pub loop-k-init : goal.loop-k-init
 loop-k-init c = turning_start _ _ _
 
--- the place lies in each layer
-inside : (c : In-loop-k)
-    → Inside (c.args.base + c.loop-k.k * c.args.stride) c.args.text.now c.args.thins.now c.args.bodies.now c.args.grid.now
+-- the place lies in the layer
+inside : (c : In-loop-k) → c.args.l.base + c.loop-k.k * c.args.l.stride < length c.args.grid.now
 inside c = c.requires.by_index c.loop-k.k c.loop-k-test.true
 
 pub overflow_mul-k : goal.overflow_mul-k
 overflow_mul-k c = omega (arith, inside (goal.at.overflow_mul-k c).In-loop-k)
 
-pub overflow_add-base : goal.overflow_add-base
-overflow_add-base c = omega (arith, inside (goal.at.overflow_add-base c).In-loop-k)
+pub overflow_add-l : goal.overflow_add-l
+overflow_add-l c = omega (arith, inside (goal.at.overflow_add-l c).In-loop-k)
 
 pub carry_at-requires : goal.carry_at-requires
 carry_at-requires c =
@@ -37,9 +34,9 @@ pub returns-after-loop-k : goal.returns-after-loop-k
 returns-after-loop-k c =
     let a = c.args in
     turning_end c.loop-k.invariant c.loop-k-test.false
-    ∙ line_carried_lem a.d a.off (λ i. a.base + i * a.stride) a.n a.grid.now (sym c.has_code.ensures ∙ c.if-has_code.true)
+    ∙ line_carried_lem a.d a.l.off (place_in a.l) a.l.count a.grid.now (sym c.has_code.ensures ∙ c.if-has_code.true)
 
 pub returns-else-has_code : goal.returns-else-has_code
 returns-else-has_code c =
     let a = c.args in
-    line_stays a.d a.off (λ i. a.base + i * a.stride) a.n a.grid.now (sym c.has_code.ensures ∙ c.if-has_code.false)
+    line_stays a.d a.l.off (place_in a.l) a.l.count a.grid.now (sym c.has_code.ensures ∙ c.if-has_code.false)

@@ -1,8 +1,8 @@
 -- `grid_layer::carry_lines` meets its contract. The invariant: the first j lines are carried.
-use Prim.Native.Nat.{ℕ, ◌-◌, ◌<◌}
+use Prim.Native.Nat.{ℕ, ◌<◌}
 use native.Mathlib.Omega.{arith}
 use Rattle.lists.specs.Line.{placed}
-use Rattle.body_layer.proofs.SizeLaws.{Inside}
+use lib.ListN.{length}
 use Rattle.thin_layer.proofs.Turning.{turning_start, turning_more, turning_end}
 use Rattle.grid_layer.proofs.carry_lines.Goals as goal
 use Rattle.grid_layer.proofs.carry_lines.Goals.{In-loop-j}
@@ -10,19 +10,15 @@ use Rattle.grid_layer.proofs.carry_lines.Goals.{In-loop-j}
 pub loop-j-init : goal.loop-j-init
 loop-j-init c = turning_start _ _ _
 
-abbrev place : In-loop-j → ℕ → ℕ
-place c k = placed c.args.base c.args.across c.args.stride c.loop-j.j k
-
--- the line's places lie in each layer
-inside : (c : In-loop-j) (k : ℕ) → k < c.args.n
-    → Inside (place c k) c.args.text.now c.args.thins.now c.args.bodies.now c.args.grid.now
+-- the line's places lie in the layer
+inside : (c : In-loop-j) (k : ℕ) → k < c.args.l.count → placed c.args.l.base c.args.across c.args.l.stride c.loop-j.j k < length c.args.grid.now
 inside c k h = c.requires.by_index c.loop-j.j k c.loop-j-test.true h
 
 pub overflow_mul-j : goal.overflow_mul-j
 overflow_mul-j c = omega (arith, inside (goal.at.overflow_mul-j c).In-loop-j 0 (omega arith))
 
-pub overflow_add-base : goal.overflow_add-base
-overflow_add-base c = omega (arith, inside (goal.at.overflow_add-base c).In-loop-j 0 (omega arith))
+pub overflow_add-l : goal.overflow_add-l
+overflow_add-l c = omega (arith, inside (goal.at.overflow_add-l c).In-loop-j 0 (omega arith))
 
 pub carry_line-requires : goal.carry_line-requires
 carry_line-requires c = record { by_index = (λ k h. omega (arith, inside (goal.at.carry_line-requires c).In-loop-j k h, c.loop-j.invariant.long)); n_bound = omega arith; line_stays = c.requires.line_stays }

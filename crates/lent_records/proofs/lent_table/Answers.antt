@@ -2,37 +2,34 @@
 use Rattle.lent.specs.Lent.{lists_of}
 use Rattle.std.proofs.lemmas.Result.{err_from_is_err_and}
 use Rattle.std.specs.Prelude.{Ok, ℕ}
-use mathlib.Core.Path.{◌≡◌, sym, ap, ◌∙◌, subst}
+use mathlib.Core.Path.{◌≡◌, refl, sym, ap, ◌∙◌}
 use lib.ListN.{length}
-use Rattle.cells.specs.Held.{Held}
 use Rattle.cells.specs.Plane.{plane_in}
 use Rattle.cells.specs.Spans.{texts_in}
-use Rattle.lent.specs.Held.{loaded_in, LoadedHeld}
-use Rattle.lent.specs.LentPlane.{LentPlane, lent_of}
-use Rattle.lent_records.proofs.LentTableLaws.{not_lent, lent-policy, few_bytes, no_name}
+use Rattle.lent.specs.Held.{loaded_in}
+use Rattle.lists.proofs.Tests.{true_false}
+use Rattle.lent.specs.LentPlane.{lent_of}
+use Rattle.lent_records.proofs.LentTableLaws.{not_lent, lent-policy, few_bytes}
 use Rattle.lent_records.proofs.lent_table.Goals as goal
-use Rattle.lent_records.proofs.lent_table.Goals.{In_ok-n, Start}
+use Rattle.lent_records.proofs.lent_table.Goals.{In_ok-rows, Start}
 use Rattle.model.specs.Refusals.{Reading}
 
-told : (c : In_ok-n) → Ok (record { plane = plane_in c.load.new.plane c.in_ok-n.n; texts = texts_in c.args.l.bytes.now c.load.new.spans (length c.args.l.offsets.now) }) ≡ lent_of (lists_of c.args.l)
-told c = ap (λ (m : Reading ℕ). loaded_in m c.load.new.plane c.args.l.bytes.now c.load.new.spans (length c.args.l.offsets.now)) (sym c.in_ok-n.was) ∙ c.load.ensures.loaded
-
-held : (c : In_ok-n) → Held c.load.new.plane c.in_ok-n.n c.args.l.bytes.now c.load.new.spans (length c.args.l.offsets.now)
-held c = subst (λ (m : Reading ℕ). LoadedHeld m c.load.new.plane c.args.l.bytes.now c.load.new.spans (length c.args.l.offsets.now)) c.in_ok-n.was c.load.ensures.held
+told : (c : In_ok-rows) → Ok (record { plane = plane_in c.load.new.plane c.in_ok-rows.rows; texts = texts_in c.args.l.bytes.now c.load.new.spans (length c.args.l.offsets.now) }) ≡ lent_of (lists_of c.args.l)
+told c = ap (λ (m : Reading ℕ). loaded_in m c.load.new.plane c.args.l.bytes.now c.load.new.spans (length c.args.l.offsets.now)) (sym c.in_ok-rows.was) ∙ c.load.ensures.loaded
 
 pub plane_table-requires : goal.plane_table-requires
 plane_table-requires c =
-    let few = few_bytes (lists_of c.args.l) (record { plane = plane_in c.load.new.plane c.in_ok-n.n; texts = texts_in c.args.l.bytes.now c.load.new.spans (length c.args.l.offsets.now) }) (told (goal.at.plane_table-requires c).In_ok-n) in
-    (record { held = held (goal.at.plane_table-requires c).In_ok-n; few = few; sheet = c.requires.sheet; room = c.requires.room }, no_name (held (goal.at.plane_table-requires c).In_ok-n) few)
+    let few = few_bytes (lists_of c.args.l) (record { plane = plane_in c.load.new.plane c.in_ok-rows.rows; texts = texts_in c.args.l.bytes.now c.load.new.spans (length c.args.l.offsets.now) }) (told (goal.at.plane_table-requires c).In_ok-rows) in
+    (record { few = few; sheet = c.requires.sheet; room = c.requires.room }, λ t. true_false t refl)
 
 pub returns : goal.returns
 returns c =
     let p = c.plane_table.ensures in
-    record { table = p.table ∙ lent-policy (lists_of c.args.l) (record { plane = plane_in c.load.new.plane c.in_ok-n.n; texts = texts_in c.args.l.bytes.now c.load.new.spans (length c.args.l.offsets.now) }) (told (goal.at.returns c).In_ok-n); held = p.held }
+    record { table = p.table ∙ lent-policy (lists_of c.args.l) (record { plane = plane_in c.load.new.plane c.in_ok-rows.rows; texts = texts_in c.args.l.bytes.now c.load.new.spans (length c.args.l.offsets.now) }) (told (goal.at.returns c).In_ok-rows); held = p.held }
 
-pub returns-in_err-n : goal.returns-in_err-n
-returns-in_err-n c =
+pub returns-in_err-rows : goal.returns-in_err-rows
+returns-in_err-rows c =
     let p = err_from_is_err_and c.from_residual.result c.from_residual.ensures.1 in
     rw (p.1, p.2) (
-    record { table = not_lent (lists_of c.args.l) _ (ap (λ (m : Reading ℕ). loaded_in m c.load.new.plane c.args.l.bytes.now c.load.new.spans (length c.args.l.offsets.now)) (sym c.in_err-n.was) ∙ c.load.ensures.loaded); held = tt }
+    record { table = not_lent (lists_of c.args.l) _ (ap (λ (m : Reading ℕ). loaded_in m c.load.new.plane c.args.l.bytes.now c.load.new.spans (length c.args.l.offsets.now)) (sym c.in_err-rows.was) ∙ c.load.ensures.loaded); held = tt }
     )

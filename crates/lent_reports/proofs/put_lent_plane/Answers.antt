@@ -10,34 +10,35 @@ use Rattle.outcome_lines.proofs.OutcomeLaws.{Reported, lent_printable, end_repor
 use native.Mathlib.Omega.{arith}
 use borrow.Author.Rules.{rules}
 use Rattle.lent_reports.proofs.put_lent_plane.Goals as goal
+use Rattle.lent_reports.proofs.put_lent_plane.Given.{Over}
 use Rattle.lent_reports.proofs.put_lent_plane.Goals.{After-read_lent_plane-stated}
 
-told : (c : After-read_lent_plane-stated)
+told : (g : Over) (c : After-read_lent_plane-stated g)
     → let a = c.args in
     let l : LentPlane = lists_of a.l in
     Reported (lent_policy l) record_bytes c.read_lent_plane-stated.result c.read_lent_plane-stated.new.out
-told c =
+told g c =
     let a = c.args in
     let l : LentPlane = lists_of a.l in
     end_reported lent_sizes (lent_policy l) _ _ _ _ _ record_bytes (lent_printable l) (search rules) (search rules) c.read_lent_plane-stated.ensures.end
 
 pub slice_bounds-read_lent_plane-end : goal.slice_bounds-read_lent_plane-end
-slice_bounds-read_lent_plane-end c = refl
+slice_bounds-read_lent_plane-end g c = refl
 
 pub slice_bounds-read_lent_plane-end-2 : goal.slice_bounds-read_lent_plane-end-2
-slice_bounds-read_lent_plane-end-2 c = refl
+slice_bounds-read_lent_plane-end-2 g c = refl
 
 pub slice_bounds-read_lent_plane-end-3 : goal.slice_bounds-read_lent_plane-end-3
-slice_bounds-read_lent_plane-end-3 c = refl
+slice_bounds-read_lent_plane-end-3 g c = refl
 
 pub slice_bounds-read_lent_plane-end-4 : goal.slice_bounds-read_lent_plane-end-4
-slice_bounds-read_lent_plane-end-4 c = refl
+slice_bounds-read_lent_plane-end-4 g c = refl
 
 pub slice_bounds-read_lent_plane-end-5 : goal.slice_bounds-read_lent_plane-end-5
-slice_bounds-read_lent_plane-end-5 c = refl
+slice_bounds-read_lent_plane-end-5 g c = refl
 
 pub put_outcome-requires : goal.put_outcome-requires
-put_outcome-requires c = (omega (arith, c.requires), omega (arith, c.read_lent_plane-stated.auto.out), (told (goal.at.put_outcome-requires c).After-read_lent_plane-stated).sound)
+put_outcome-requires g c = (search arith, (omega (arith, c.requires), omega (arith, c.read_lent_plane-stated.auto.out), (told g (goal.at.put_outcome-requires g c).After-read_lent_plane-stated).sound))
 
 pub returns : goal.returns
-returns c = written_as c.put_outcome.ensures (told (goal.at.returns c).After-read_lent_plane-stated).lines
+returns g c = written_as c.put_outcome.ensures (told g (goal.at.returns g c).After-read_lent_plane-stated).lines

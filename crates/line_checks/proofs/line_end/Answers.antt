@@ -1,43 +1,42 @@
 -- `line_checks::line_end` meets its contract.
-use mathlib.Core.Path.{◌≡◌, refl}
-use Prim.Native.Nat.{◌-◌}
+use mathlib.Core.Path.{◌≡◌, refl, sym, ◌∙◌}
 use native.Mathlib.Omega.{arith}
 use lib.ListN.{drop}
 use Rattle.utf8.specs.Utf8.{decode}
 use Rattle.utf8.specs.Passed.{code_of}
 use Rattle.utf8.specs.declared.Decoded.TheVariants.{Char}
 use Rattle.utf8.proofs.Utf8Laws.{codes_bad}
-use Rattle.utf8.proofs.RareLaws.{passed_bad, passed_char}
+use Rattle.utf8.proofs.RareLaws.{bad_bytes, told_bytes}
 use Rattle.line_checks.proofs.LinePassing.{pass-start, pass_fits, pass-more, pass_feed, pass_stop, pass_end}
 use Rattle.line_checks.proofs.PlainLaws.{pass-plain, feed_here, no_feed_here}
 use Rattle.line_checks.proofs.line_end.Goals as goal
-use Rattle.line_checks.proofs.line_end.Goals.{After-passed-n}
+use Rattle.line_checks.proofs.line_end.Goals.{In-Some}
 
 pub loop-p-init : goal.loop-p-init
 loop-p-init c = let e = c.skip_plain-p.ensures in pass-plain e.0 e.1 e.2 (pass-start _ _ c.requires)
 
-pub returns-then-n-eq0 : goal.returns-then-n-eq0
-returns-then-n-eq0 c = let w = pass_stop c.loop-p.invariant (codes_bad _ (passed_bad c.args.s.now c.loop-p.p c.loop-p-test.true _ c.passed-n.ensures c.if-n-eq0.true)) in record { next = w.0; valid = w.1 }
+pub returns-in_default : goal.returns-in_default
+returns-in_default c = let w = pass_stop c.loop-p.invariant (codes_bad _ (bad_bytes c.args.s.now c.loop-p.p c.loop-p-test.true (sym c.in_default.is ∙ c.passed.ensures))) in record { next = w.0; valid = w.1 }
 
 -- a code point
-char : (c : After-passed-n) → (c.passed-n.result ≡ 0 → ⊥) → decode (drop c.loop-p.p c.args.s.now) ≡ Char (code_of (decode (drop c.loop-p.p c.args.s.now))) c.passed-n.result
-char c f = passed_char (drop c.loop-p.p c.args.s.now) _ c.passed-n.ensures f
+char : (c : In-Some) → decode (drop c.loop-p.p c.args.s.now) ≡ Char (code_of (decode (drop c.loop-p.p c.args.s.now))) c.in-Some.n
+char c = told_bytes (drop c.loop-p.p c.args.s.now) _ (sym c.in-Some.is ∙ c.passed.ensures)
 
 pub returns-then-s-p-eq10 : goal.returns-then-s-p-eq10
 returns-then-s-p-eq10 c = let w = pass_feed c.loop-p.invariant (feed_here c.args.s.now c.loop-p.p c.loop-p-test.true c.if-s-p-eq10.true) refl in record { next = w.0; valid = w.1 }
 
 pub skip_some-p-requires : goal.skip_some-p-requires
 skip_some-p-requires c =
-    (pass_fits c.loop-p.invariant (char (goal.at.skip_some-p-requires c).After-passed-n c.if-n-eq0.false)).1
+    (pass_fits c.loop-p.invariant (char (goal.at.skip_some-p-requires c).In-Some)).1
 
 pub loop-p-smaller : goal.loop-p-smaller
 loop-p-smaller c =
-    omega (arith, c.skip_some-p.ensures.0, (pass_fits c.loop-p.invariant (char (goal.at.loop-p-smaller c).After-passed-n c.if-n-eq0.false)).0, c.loop-p-test.true)
+    omega (arith, c.skip_some-p.ensures.0, (pass_fits c.loop-p.invariant (char (goal.at.loop-p-smaller c).In-Some)).0, c.loop-p-test.true)
 
 pub loop-p-preserved : goal.loop-p-preserved
 loop-p-preserved c =
     let e = c.skip_some-p.ensures in
-    let d = char (goal.at.loop-p-preserved c).After-passed-n c.if-n-eq0.false in
+    let d = char (goal.at.loop-p-preserved c).In-Some in
     pass-plain e.0 e.1 e.2 (pass-more c.loop-p.invariant d (no_feed_here c.args.s.now c.loop-p.p c.loop-p-test.true c.if-s-p-eq10.false d))
 
 pub returns : goal.returns

@@ -1,5 +1,4 @@
 -- `line_checks::skip_plain` meets its contract.
-use Prim.Native.Nat.{◌-◌}
 use native.Mathlib.Omega.{arith}
 use Rattle.line_checks.proofs.PlainLaws.{plain-none, plain-join}
 use borrow.Author.Rules.{rules}

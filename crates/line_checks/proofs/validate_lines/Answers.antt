@@ -1,6 +1,5 @@
 -- `line_checks::validate_lines` meets its contract.
 use mathlib.Core.Path.{refl, sym, ◌∙◌}
-use Prim.Native.Nat.{◌-◌}
 use native.Mathlib.Omega.{arith}
 use Rattle.line_checks.proofs.validate_lines.Goals as goal
 

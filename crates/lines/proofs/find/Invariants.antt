@@ -1,5 +1,3 @@
-use Prim.Native.Nat.{◌-◌}
-use lib.ListN.{length}
 use Rattle.lines.proofs.Finding.{Seeking}
 use Rattle.lines.proofs.find.Given as goal
 

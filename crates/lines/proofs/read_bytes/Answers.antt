@@ -1,28 +1,28 @@
 -- `lines::read_bytes` meets its contract.
-use Rattle.lines.proofs.Reading.{reading_start, reading_cut, reading_bad, reading_more, reading_end, byte_small}
+use Rattle.lines.proofs.Reading.{reading_start, reading_cut, reading_bad, reading_more, reading_left, reading_end, byte_small}
 use native.Mathlib.Omega.{arith}
 use Rattle.lines.proofs.read_bytes.Goals as goal
 
-pub loop-k-init : goal.loop-k-init
-loop-k-init c = reading_start c.requires.0 c.requires.1
-
-pub shape_of-text-then-line-at : goal.shape_of-text-then-line-at
-shape_of-text-then-line-at c = c.loop-k.invariant.long
+pub loop-init : goal.loop-init
+loop-init g c = reading_start c.requires.0 c.new-text.ensures
 
 pub returns-then-line-at : goal.returns-then-line-at
-returns-then-line-at c = reading_cut c.loop-k.invariant c.loop-k-test.true c.if-line-at.true
+returns-then-line-at g c = reading_cut c.loop.invariant c.loop-test.true c.if-line-at.true
 
-pub returns-in_default : goal.returns-in_default
-returns-in_default c = reading_bad c.loop-k.invariant c.loop-k-test.true c.if-line-at.false c.find-end.ensures c.in_default.ensures
+pub returns-in_err-b : goal.returns-in_err-b
+returns-in_err-b g c = rw c.from_residual.ensures (reading_bad c.loop.invariant c.loop-test.true c.if-line-at.false c.find-end.ensures c.in_err-b.ensures)
 
-pub overflow_cast-text : goal.overflow_cast-text
-overflow_cast-text c = omega (arith, byte_small _ c.in-Some.ensures)
+pub push-requires : goal.push-requires
+push-requires g c = omega (arith, c.loop.invariant.long, c.loop-test.true, c.requires.1)
 
-pub loop-k-preserved : goal.loop-k-preserved
-loop-k-preserved c = reading_more c.loop-k.invariant c.loop-k-test.true c.if-line-at.false c.find-end.ensures c.in-Some.ensures
+pub overflow_cast-b : goal.overflow_cast-b
+overflow_cast-b g c = omega (arith, byte_small _ c.in_ok-b.ensures)
 
-pub shape_of-text : goal.shape_of-text
-shape_of-text c = c.loop-k.invariant.long
+pub loop-preserved : goal.loop-preserved
+loop-preserved g c = reading_more c.loop.invariant c.loop-test.true c.if-line-at.false c.find-end.ensures c.in_ok-b.ensures c.push.ensures.items
+
+pub returns-then-at-line : goal.returns-then-at-line
+returns-then-at-line g c = reading_left c.loop.invariant c.loop-test.false c.if-at-line.true
 
 pub returns : goal.returns
-returns c = reading_end c.loop-k.invariant c.loop-k-test.false
+returns g c = reading_end c.loop.invariant c.loop-test.false c.if-at-line.false

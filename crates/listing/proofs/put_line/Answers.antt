@@ -5,4 +5,4 @@ use Rattle.print.proofs.WrittenLaws.{written_as}
 use Rattle.listing.proofs.put_line.Goals as goal
 
 pub returns : goal.returns
-returns c = written_as c.put_count.ensures (ap (count_line c.args.name.now) c.word_at.ensures)
+returns g c = written_as c.put_count.ensures (ap (count_line c.args.name.now) c.word_at.ensures)

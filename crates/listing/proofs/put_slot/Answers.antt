@@ -8,22 +8,16 @@ use Rattle.listing.proofs.put_slot.Goals as goal
 
 pub returns-then-is_absent : goal.returns-then-is_absent
 unfolding absent_line
-returns-then-is_absent c = let w1 = c.put_word-a.ensures in
-    let w2 = c.put_number-b.ensures in
-    let k1 = c.put_word-a.auto.out in
-    let e = sym c.is_absent.ensures ∙ c.if-is_absent.true in
+returns-then-is_absent g c = let e = sym c.is_absent.ensures ∙ c.if-is_absent.true in
     written_within
-    (written_as (written_then w1 (written_then w2 c.put_word.ensures (omega (arith, k1, w1.short, w2.short))) (omega (arith, w1.short)))
+    (written_as (written_then c.put_word.ensures (written_then c.put_number.ensures c.put_word-then-is_absent.ensures))
     (slot_absent c.args.bytes.now c.args.i c.word_at-offset.ensures c.word_at-size.ensures e))
     (omega arith)
 
 pub returns : goal.returns
 unfolding present_line
-returns c = let w1 = c.put_word-a.ensures in
-    let w2 = c.put_number-b.ensures in
-    let k1 = c.put_word-a.auto.out in
-    let e = sym c.is_absent.ensures ∙ c.if-is_absent.false in
+returns g c = let e = sym c.is_absent.ensures ∙ c.if-is_absent.false in
     written_within
-    (written_as (written_then w1 (written_then w2 c.put_part.ensures (omega (arith, k1, w1.short, w2.short))) (omega (arith, w1.short)))
+    (written_as (written_then c.put_word.ensures (written_then c.put_number.ensures c.put_part.ensures))
     (slot_present c.args.bytes.now c.args.i c.word_at-offset.ensures c.word_at-size.ensures e))
     (omega (arith, c.word_at-size.ensures))

@@ -1,5 +1,5 @@
 -- The rects before place i are those of the numbers, and the others are the old ones.
-use Rattle.std.proofs.Common.{◌-◌, ◌≡◌, ◌≤◌}
+use Rattle.std.proofs.Common.{◌≡◌, ◌≤◌}
 use Rattle.lookup.proofs.FirstLaws.{filled}
 use Rattle.lookup.proofs.fill.Given as goal
 

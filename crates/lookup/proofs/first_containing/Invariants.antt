@@ -1,5 +1,4 @@
 -- The search has come to rect i.
-use Rattle.std.proofs.Common.{◌-◌}
 use Rattle.lookup.proofs.FirstLaws.{Searching}
 use Rattle.lookup.proofs.first_containing.Given as goal
 

@@ -1,4 +1,4 @@
-use Prim.Native.Nat.{◌-◌, ◌≤◌}
+use Prim.Native.Nat.{◌≤◌}
 use Rattle.lookup.specs.Numbers.{Above}
 use Rattle.lookup.proofs.live.Given as goal
 

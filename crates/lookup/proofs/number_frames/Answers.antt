@@ -26,17 +26,17 @@ number_in-k-requires c =
     let to = c.live-from.ensures in
     let seen = c.seek-s.ensures in (
       to.1,
-      omega (arith, c.fill.auto.rects, c.requires.1),
+      omega (arith, c.fill.auto.rects, c.requires.0),
       without_any _ c.args.nums.now c.args.count _ _ _ (rects_are (goal.at.number_in-k-requires c).After-fill) to.1 to.2 seen.ends,
     )
 
 pub put_number-i-requires : goal.put_number-i-requires
 put_number-i-requires c =
     let a = c.args in
-    let few = c.requires.1 in
+    let few = c.requires.0 in
     let e = found_is (goal.at.put_number-i-requires c).After-number_in-k (rects_are (goal.at.put_number-i-requires c).After-fill) in
     let k = number-few (rects_of a.nums.now a.count) c.seek-s.result.frame in (
-      omega (arith, c.loop-i.invariant.long, c.requires.3),
+      omega (arith, c.loop-i.invariant.long, c.requires.2),
       omega (arith, e, k, length_run (rect_at a.nums.now) 0 a.count, few),
     )
 
@@ -44,4 +44,4 @@ pub loop-i-preserved : goal.loop-i-preserved
 loop-i-preserved c =
     let to = c.live-from.ensures in
     let e = found_is (goal.at.loop-i-preserved c).After-number_in-k (rects_are (goal.at.loop-i-preserved c).After-fill) in
-    (numbering_next c.loop-i.invariant c.loop-i-test.true c.requires.3 c.seek-s.ensures _ to.1 to.2 _ e _ _ c.put_number-i.ensures c.put_number-i.auto.found).1
+    (numbering_next c.loop-i.invariant c.loop-i-test.true c.requires.2 c.seek-s.ensures _ to.1 to.2 _ e _ _ c.put_number-i.ensures c.put_number-i.auto.found).1

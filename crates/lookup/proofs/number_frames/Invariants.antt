@@ -1,6 +1,6 @@
 -- The frames before place i are numbered.
 use Rattle.std.proofs.Common.{◌-◌, ◌*◌}
-use Rattle.lists.specs.Picture.{canvas}
+use Rattle.model.specs.Layers.{picture_of}
 use Rattle.walks.specs.Frame.{frame_of}
 use Rattle.walks.specs.Kinds.{grid}
 use Rattle.lookup.proofs.NumberLaws.{Numbering}
@@ -8,7 +8,8 @@ use Rattle.lookup.proofs.number_frames.Given as goal
 
 abbrev pub invariant-loop-i : goal.invariant-loop-i
 invariant-loop-i l =
-    Numbering (frame_of grid (canvas l.w l.h l.layer) l.w l.h) l.nums l.count l.layer l.w l.h l.initial.found l.i l.from l.found
+    let k = l.layer in
+    Numbering (frame_of grid (picture_of k) k.width k.height) l.nums l.count k.codes.now k.width k.height l.initial.found l.i l.from l.found
 
 abbrev pub decreases-loop-i : goal.decreases-loop-i
-decreases-loop-i l = l.h * l.w - l.i
+decreases-loop-i l = l.layer.height * l.layer.width - l.i

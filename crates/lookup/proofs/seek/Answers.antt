@@ -4,7 +4,6 @@ use mathlib.Core.Path.{◌≡◌, refl, sym, ap, ◌∙◌}
 use Prim.Native.Nat.{ℕ, ◌+◌, ◌/◌, ◌<◌, ◌^◌}
 use native.Mathlib.Nat.{div-le_self}
 use native.Mathlib.Omega.{arith}
-use lib.ListN.{length}
 use Rattle.lists.specs.Picture.{Picture}
 use Rattle.lists.proofs.PlaceLaws.{columns}
 use Rattle.regions.proofs.RegionLaws.{place_of}
@@ -34,12 +33,12 @@ number_ok rs (Ok f) = refl
 number_ok rs (Err r) = refl
 
 pub nonzero_div-row : goal.nonzero_div-row
-nonzero_div-row c = columns c.args.w c.args.h c.args.i c.requires.1
+nonzero_div-row c = columns c.args.layer.width c.args.layer.height c.args.i c.requires
 
 -- the rows under a corner are numbers
-rows_fit : (c : After-next_corner-at) → c.next_corner-at.result / c.args.w + 2 < 2 ^ 64
+rows_fit : (c : After-next_corner-at) → c.next_corner-at.result / c.args.layer.width + 2 < 2 ^ 64
 rows_fit c =
-    omega (arith, div-le_self c.next_corner-at.result c.args.w, c.next_corner-at.ensures.to, c.requires.0.size, c.well_formed)
+    omega (arith, div-le_self c.next_corner-at.result c.args.layer.width, c.next_corner-at.ensures.to, c.args.layer.sized, c.well_formed)
 
 pub overflow_add-under : goal.overflow_add-under
 overflow_add-under c = omega (arith, rows_fit c)
@@ -47,12 +46,12 @@ overflow_add-under c = omega (arith, rows_fit c)
 pub returns-then-size-at : goal.returns-then-size-at
 returns-then-size-at c = record { next = c.next_corner-at.ensures; under = refl; ends = λ f e. absurd cc; frame = λ l rs. absurd (omega (arith, c.if-size-at.true)) }
 
-pub nonzero_rem-at : goal.nonzero_rem-at
-nonzero_rem-at c = let a = c.args in columns a.w a.h c.next_corner-at.result c.if-size-at.false
+pub nonzero_rem-corner : goal.nonzero_rem-corner
+nonzero_rem-corner c = let l = c.args.layer in columns l.width l.height c.next_corner-at.result c.if-size-at.false
 
 pub recognize_rectangle-requires : goal.recognize_rectangle-requires
 recognize_rectangle-requires c =
-    place_of c.args.w c.args.h c.next_corner-at.result (length c.args.layer.now) c.requires.0 c.if-size-at.false
+    place_of c.args.layer.width c.args.layer.height c.next_corner-at.result c.if-size-at.false
 
 pub returns : goal.returns
 returns c =

@@ -8,8 +8,8 @@ use Rattle.outline.proofs.name_above.Goals as goal
 
 pub returns-then-row-eq0 : goal.returns-then-row-eq0
 returns-then-row-eq0 c =
-    let a = c.args in
-    none_above _ _ _ ∙ ap (named_of _ a.w a.h) (sym c.if-row-eq0.true)
+    let l = c.args.layer in
+    none_above _ _ _ ∙ ap (named_of _ l.width l.height) (sym c.if-row-eq0.true)
 
 pub returns : goal.returns
 returns c =

@@ -2,7 +2,6 @@
 use Rattle.std.proofs.lemmas.Result.{err_from_is_err_and}
 use mathlib.Core.Path.{sym, ◌∙◌}
 use Prim.Native.Nat.{◌/◌, ◌%◌}
-use lib.ListN.{length}
 use Rattle.lists.proofs.PlaceLaws.{columns, column_in, row_in_lem}
 use Rattle.walks.specs.Frame.{Place}
 use Rattle.outline.proofs.OutlineLaws.{walk_fits, table_made, no_body}
@@ -11,16 +10,16 @@ use Rattle.outline.proofs.recognize_table.Goals as goal
 use Rattle.outline.proofs.recognize_table.Goals.{Start}
 
 -- the main crossing's place
-spot : (t : Start) → Place t.args.w t.args.h (t.args.cross % t.args.w) (t.args.cross / t.args.w) (length t.args.layer.now)
+spot : (t : Start) → Place t.args.layer.width t.args.layer.height (t.args.cross % t.args.layer.width) (t.args.cross / t.args.layer.width)
 spot t =
-    let a = t.args in
-    record { column = column_in a.w a.h a.cross t.requires.0; row = row_in_lem a.w a.h a.cross t.requires.0; size = t.requires.1 }
+    let l = t.args.layer in
+    record { column = column_in l.width l.height t.args.cross t.requires; row = row_in_lem l.width l.height t.args.cross t.requires }
 
-pub nonzero_rem-x : goal.nonzero_rem-x
-nonzero_rem-x c = columns c.args.w c.args.h c.args.cross c.requires.0
+pub nonzero_rem-main : goal.nonzero_rem-main
+nonzero_rem-main c = columns c.args.layer.width c.args.layer.height c.args.cross c.requires
 
-pub nonzero_div-y : goal.nonzero_div-y
-nonzero_div-y c = columns c.args.w c.args.h c.args.cross c.requires.0
+pub nonzero_div-main : goal.nonzero_div-main
+nonzero_div-main c = columns c.args.layer.width c.args.layer.height c.args.cross c.requires
 
 pub recognize_body-requires : goal.recognize_body-requires
 recognize_body-requires c = spot (goal.at.recognize_body-requires c).Start
@@ -35,14 +34,14 @@ crossing_right-requires c = spot (goal.at.crossing_right-requires c).Start
 
 pub crossed-right-requires : goal.crossed-right-requires
 crossed-right-requires c =
-    walk_fits _ _ _ _ (c.args.cross % c.args.w) c.crossing_right.result (omega (arith, (spot (goal.at.crossed-right-requires c).Start).column, c.ranges.w.fits)) c.crossing_right.ensures
+    walk_fits _ _ _ _ (c.args.cross % c.args.layer.width) c.crossing_right.result (omega (arith, (spot (goal.at.crossed-right-requires c).Start).column, c.well_formed)) c.crossing_right.ensures
 
 pub crossing_below-requires : goal.crossing_below-requires
 crossing_below-requires c = spot (goal.at.crossing_below-requires c).Start
 
 pub crossed-below-requires : goal.crossed-below-requires
 crossed-below-requires c =
-    walk_fits _ _ _ _ (c.args.cross / c.args.w) c.crossing_below.result (omega (arith, (spot (goal.at.crossed-below-requires c).Start).row, c.ranges.h.fits)) c.crossing_below.ensures
+    walk_fits _ _ _ _ (c.args.cross / c.args.layer.width) c.crossing_below.result (omega (arith, (spot (goal.at.crossed-below-requires c).Start).row, c.well_formed)) c.crossing_below.ensures
 
 pub returns : goal.returns
 returns c =

@@ -1,7 +1,8 @@
-use Prim.Native.Nat.{◌*◌, ◌-◌}
-use Rattle.lists.specs.Picture.{canvas, at}
+use Prim.Native.Nat.{◌*◌}
+use Rattle.lists.specs.Picture.{at}
+use Rattle.model.specs.Layers.{picture_of}
 use Rattle.outline.proofs.OutlineLaws.{Searching}
 use Rattle.outline.proofs.search.Given as goal
 
 abbrev pub invariant-loop-i : goal.invariant-loop-i
-invariant-loop-i l = Searching (at (canvas l.w l.h l.layer) l.w) l.code (l.h * l.w) l.i
+invariant-loop-i l = let k = l.layer in Searching (at (picture_of k) k.width) l.code (k.height * k.width) l.i

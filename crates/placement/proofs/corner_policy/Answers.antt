@@ -1,13 +1,13 @@
 -- `placement::corner_policy` meets its contract.
 use Rattle.std.specs.Prelude.{Ok}
 use mathlib.Core.Path.{ap, ◌∙◌}
-use Rattle.rule_numbers.proofs.TextLaws.{cell_part}
+use Rattle.rule_numbers.proofs.HeldLaws.{cell_numbered}
 use Rattle.placement.proofs.CornerLaws.{corner_cell, corner_missing}
 use Rattle.placement.proofs.corner_policy.Goals as goal
 
 pub policy_in-requires : goal.policy_in-requires
 policy_in-requires c =
-    cell_part c.requires.0 c.args.row 0 _ c.requires.1 c.in-Some.ensures
+    cell_numbered c.args.sheet.held c.args.row 0 _ c.requires c.in-Some.ensures
 
 pub returns-in-Some : goal.returns-in-Some
 returns-in-Some c = ap Ok c.policy_in.ensures ∙ corner_cell _ _ _ _ c.in-Some.ensures

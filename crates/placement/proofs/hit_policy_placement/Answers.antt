@@ -5,8 +5,8 @@ use Rattle.std.proofs.lemmas.Result.{err_from_is_err_and}
 use Rattle.placement.proofs.CornerLaws.{no_rows, top-corner, top-refused}
 use Rattle.placement.proofs.hit_policy_placement.Goals as goal
 
-pub returns-then-n-eq0 : goal.returns-then-n-eq0
-returns-then-n-eq0 c = no_rows _ _ _ c.if-n-eq0.true
+pub returns-then-plane-eq0 : goal.returns-then-plane-eq0
+returns-then-plane-eq0 c = no_rows _ _ _ c.if-plane-eq0.true
 
 pub returns-in-Some : goal.returns-in-Some
 returns-in-Some c =

@@ -11,7 +11,7 @@ returns-in_err-p c =
     rw (p.1, p.2, ← c.in_err-p.ensures)
 
 pub rule_numbers-requires : goal.rule_numbers-requires
-rule_numbers-requires c = (c.requires, placed-rows _ _ _ _ c.in_ok-p.ensures)
+rule_numbers-requires c = placed-rows _ _ _ _ c.in_ok-p.ensures
 
 pub returns-in_err-m : goal.returns-in_err-m
 unfolding oriented_of

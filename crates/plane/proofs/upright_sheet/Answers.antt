@@ -9,8 +9,7 @@ returns-in_err-o c =
     rw (p.1, p.2) (record { sheet = not_oriented _ _ _ c.in_err-o.ensures; held = tt })
 
 pub upright-requires : goal.upright-requires
-upright-requires c =
-    (record { fits = c.requires.0.fits; room = c.requires.1 }, oriented_rows _ _ _ _ c.in_ok-o.ensures)
+upright-requires c = (c.requires, oriented_rows _ _ _ _ c.in_ok-o.ensures)
 
 pub returns-in_err-rows : goal.returns-in_err-rows
 returns-in_err-rows c =
@@ -21,5 +20,5 @@ pub returns : goal.returns
 returns c =
     record {
       sheet = upright _ _ _ c.in_ok-o.ensures _ c.in_ok-rows.ensures.turned;
-      held = upright-held _ _ _ _ _ _ _ _ c.requires.0 c.in_ok-rows.ensures.turned c.in_ok-rows.ensures.fits;
+      held = upright-held _ _ _ _ _ _ _ _ c.args.sheet.held c.in_ok-rows.ensures.turned c.in_ok-rows.ensures.fits;
     }

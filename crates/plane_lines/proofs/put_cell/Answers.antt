@@ -8,9 +8,9 @@ use Rattle.print.proofs.WrittenLaws.{written_as}
 use Rattle.plane_lines.proofs.put_cell.Goals as goal
 
 pub number-requires : goal.number-requires
-number-requires c = c.cell_at-c.ensures.small
+number-requires g c = c.cell.ensures.small
 
 pub returns : goal.returns
-returns c =
+returns g c =
     written_as c.put_behind.ensures
-    (ap (λ (m : ℕ). 0x20 ∷ decimal m) (c.number.ensures ∙ ap cell_number c.cell_at-c.ensures.cell))
+    (ap (λ (m : ℕ). 0x20 ∷ decimal m) (c.number.ensures ∙ ap cell_number c.cell.ensures.cell))

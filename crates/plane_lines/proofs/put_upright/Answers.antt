@@ -1,11 +1,12 @@
 -- `plane_lines::put_upright` meets its contract.
-use Rattle.print.proofs.WrittenLaws.{written_then, written_within}
+use Rattle.print.proofs.WrittenLaws.{written_long, written_then}
 use Rattle.plane_lines.specs.Planes.{upright_lines}
 use native.Mathlib.Omega.{arith}
 use Rattle.plane_lines.proofs.put_upright.Goals as goal
 
+pub put_plane-requires : goal.put_plane-requires
+put_plane-requires g c = omega (arith, written_long c.put_three.ensures, c.requires)
+
 pub returns : goal.returns
 unfolding upright_lines
-returns c =
-    let w = c.put_three-a.ensures in
-    written_within (written_then w c.put_plane.ensures (omega (arith, w.short))) (omega arith)
+returns g c = written_then c.put_three.ensures c.put_plane.ensures

@@ -6,7 +6,7 @@ use Rattle.plane_rows.proofs.add_line.Goals as goal
 
 pub returns-then-row-ge-PLANE_ROWS : goal.returns-then-row-ge-PLANE_ROWS
 returns-then-row-ge-PLANE_ROWS c =
-    record { made = line_over (line_cell c.args.main c.args.s.output c.args.s.annotation) c.args.s c.args.plane.now c.if-row-ge-PLANE_ROWS.true; fits = tt }
+    record { made = line_over (line_cell c.args.l.output c.args.l.annotation c.args.l.plain c.args.s.output c.args.s.annotation) c.args.s c.args.plane.now c.if-row-ge-PLANE_ROWS.true; fits = tt }
 
 pub put_line-requires : goal.put_line-requires
 put_line-requires c =
@@ -18,4 +18,4 @@ end_row-requires c =
 
 pub returns : goal.returns
 returns c =
-    record { made = line_added (line_cell c.args.main c.args.s.output c.args.s.annotation) c.args.s c.args.plane.now c.requires c.if-row-ge-PLANE_ROWS.false _ _ c.put_line.ensures.before c.put_line.ensures.cells c.end_row.ensures.rows; fits = record { plane = c.end_row.ensures.fits; width = c.requires.width } }
+    record { made = line_added (line_cell c.args.l.output c.args.l.annotation c.args.l.plain c.args.s.output c.args.s.annotation) c.args.s c.args.plane.now c.requires c.if-row-ge-PLANE_ROWS.false _ _ c.put_line.ensures.before c.put_line.ensures.cells c.end_row.ensures.rows; fits = record { plane = c.end_row.ensures.fits; width = c.requires.width } }

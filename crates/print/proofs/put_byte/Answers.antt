@@ -4,4 +4,4 @@ use Rattle.print.proofs.WrittenLaws.{written_byte}
 use Rattle.print.proofs.put_byte.Goals as goal
 
 pub returns : goal.returns
-returns c = written_byte (omega arith) c.put_behind.ensures
+returns g c = written_byte (omega arith) c.put_behind.ensures

@@ -1,6 +1,6 @@
 -- `regions::add_within` meets its contract.
 use mathlib.Core.Path.{sym, ◌∙◌}
-use Rattle.lists.specs.Picture.{canvas}
+use Rattle.model.specs.Layers.{picture_of}
 use Rattle.walks.specs.Frame.{frame_of}
 use Rattle.walks.specs.Kinds.{thin}
 use Rattle.regions.specs.Regions.{Finder}
@@ -10,12 +10,12 @@ use Rattle.regions.proofs.add_within.Goals as goal
 use Rattle.regions.proofs.add_within.Goals.{Start}
 
 abbrev found : Start → Finder
-found s = let a = s.args in frame_of thin (canvas a.w a.h a.layer.now) a.w a.h
+found s = let l = s.args.layer in frame_of thin (picture_of l) l.width l.height
 
 pub returns-then-n-ge-REGIONS : goal.returns-then-n-ge-REGIONS
 returns-then-n-ge-REGIONS c =
     let a = c.args in
-    sym (no_room (found (goal.at.returns-then-n-ge-REGIONS c).Start) a.w a.i a.rects.now a.n c.if-n-ge-REGIONS.true)
+    sym (no_room (found (goal.at.returns-then-n-ge-REGIONS c).Start) a.layer.width a.i a.rects.now a.n c.if-n-ge-REGIONS.true)
 
 pub add_region-requires : goal.add_region-requires
 add_region-requires c =
@@ -24,4 +24,4 @@ add_region-requires c =
 pub returns : goal.returns
 returns c =
     let a = c.args in
-    c.add_region.ensures ∙ sym (has_room (found (goal.at.returns c).Start) a.w a.i a.rects.now a.n c.if-n-ge-REGIONS.false)
+    c.add_region.ensures ∙ sym (has_room (found (goal.at.returns c).Start) a.layer.width a.i a.rects.now a.n c.if-n-ge-REGIONS.false)

@@ -1,7 +1,8 @@
 -- `regions::count_corners` meets its contract.
 use mathlib.Core.Path.{◌≡◌, sym, ap, ◌∙◌}
 use mathlib.Core.Bool.{Bool}
-use Rattle.lists.specs.Picture.{canvas, at}
+use Rattle.lists.specs.Picture.{at}
+use Rattle.model.specs.Layers.{picture_of}
 use Rattle.lists.proofs.PlaceLaws.{at-canvas}
 use Rattle.regions.specs.Regions.{is_corner}
 use Rattle.regions.proofs.RegionLaws.{counting_start, counting_hit, counting_miss, counting_end}
@@ -10,10 +11,10 @@ use Rattle.regions.proofs.count_corners.Goals.{After-is_corner, then-is_corner, 
 
 -- the test told whether a corner stands at the place
 corner : (i : After-is_corner) {t : Bool} → i.is_corner.result ≡ t
-    → is_corner (at (canvas i.args.w i.args.h i.args.layer.now) i.args.w i.loop-i.i) ≡ t
+    → is_corner (at (picture_of i.args.layer) i.args.layer.width i.loop-i.i) ≡ t
 corner i e =
-    let a = i.args in
-    ap is_corner (at-canvas a.w a.h i.loop-i.i i.loop-i-test.true a.layer.now) ∙ sym i.is_corner.ensures ∙ e
+    let l = i.args.layer in
+    ap is_corner (at-canvas l.width l.height i.loop-i.i i.loop-i-test.true l.codes.now) ∙ sym i.is_corner.ensures ∙ e
 
 pub loop-i-init : goal.loop-i-init
 loop-i-init c = counting_start _ _ _

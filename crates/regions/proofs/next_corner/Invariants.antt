@@ -1,6 +1,5 @@
-use Prim.Native.Nat.{◌-◌}
 use Rattle.regions.specs.Corners.{corner_in, Seeking}
 use Rattle.regions.proofs.next_corner.Given as goal
 
 abbrev pub invariant-loop-k : goal.invariant-loop-k
-invariant-loop-k l = Seeking (corner_in l.layer) l.size l.i l.k
+invariant-loop-k l = Seeking (corner_in l.codes) l.size l.i l.k

@@ -5,7 +5,7 @@ use native.Mathlib.Omega.{arith}
 use Rattle.regions.proofs.regions_within.Goals as goal
 
 pub next_corner-i-requires : goal.next_corner-i-requires
-next_corner-i-requires c = (omega arith, c.requires.0.size)
+next_corner-i-requires c = (omega arith, c.args.layer.sized)
 
 pub loop-i-init : goal.loop-i-init
 loop-i-init c = adding_start _ _ _ _ _ _ c.next_corner-i.ensures
@@ -21,7 +21,7 @@ returns-in_err-n c =
 
 pub next_corner-i-requires-in-loop-i : goal.next_corner-i-requires-in-loop-i
 next_corner-i-requires-in-loop-i c =
-    (omega (arith, c.loop-i-test.true), c.requires.0.size)
+    (omega (arith, c.loop-i-test.true), c.args.layer.sized)
 
 pub loop-i-smaller : goal.loop-i-smaller
 loop-i-smaller c = omega (arith, c.loop-i-test.true, c.next_corner-i-in-loop-i.ensures.from)

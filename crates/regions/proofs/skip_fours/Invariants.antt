@@ -3,7 +3,7 @@ use Rattle.regions.specs.Corners.{corner_in, Seeking}
 use Rattle.regions.proofs.skip_fours.Given as goal
 
 abbrev pub invariant-loop-k : goal.invariant-loop-k
-invariant-loop-k l = Seeking (corner_in l.layer) l.size l.i l.k
+invariant-loop-k l = Seeking (corner_in l.codes) l.size l.i l.k
 
 abbrev pub decreases-loop-k : goal.decreases-loop-k
 decreases-loop-k l = l.size - l.k

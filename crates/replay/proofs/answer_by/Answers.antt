@@ -1,22 +1,16 @@
 -- `replay::answer_by` meets its contract.
-use mathlib.Core.Path.{refl, sym}
-use Rattle.replay.proofs.Replaying.{by_kind, answered_as}
+use mathlib.Core.Path.{refl, sym, ap, ◌∙◌}
+use Rattle.std.specs.Prelude.{Some}
+use Rattle.replay.proofs.Replaying.{by_text, no_text, answered_as}
+use native.Mathlib.Omega.{arith}
 use Rattle.replay.proofs.answer_by.Goals as goal
 
-pub returns-in-Split : goal.returns-in-Split
-returns-in-Split c = answered_as c.answer_split.result _ _ _ c.answer_split.ensures (by_kind c.args.rest.now _ _ c.in-Split.is)
+pub answer_text-requires : goal.answer_text-requires
+answer_text-requires g c = omega (arith, c.requires, c.as_slice.ensures.fits)
 
-pub returns-in-Drawing : goal.returns-in-Drawing
-returns-in-Drawing c = answered_as c.answer_drawing.result _ _ _ c.answer_drawing.ensures (by_kind c.args.rest.now _ _ c.in-Drawing.is)
+pub returns : goal.returns
+returns g c =
+    answered_as c.answer_text.result _ _ c.answer_text.ensures (by_text c.args.kind c.args.rest.now (c.in_ok-text.ensures ∙ ap Some (sym c.as_slice.ensures.value)))
 
-pub returns-in-Plane : goal.returns-in-Plane
-returns-in-Plane c = answered_as c.answer_plane.result _ _ _ c.answer_plane.ensures (by_kind c.args.rest.now _ _ c.in-Plane.is)
-
-pub returns-in-Sheet : goal.returns-in-Sheet
-returns-in-Sheet c = answered_as c.answer_sheet.result _ _ _ c.answer_sheet.ensures (by_kind c.args.rest.now _ _ c.in-Sheet.is)
-
-pub returns-in-Table : goal.returns-in-Table
-returns-in-Table c = answered_as c.answer_plane-in-Table.result _ _ _ c.answer_plane-in-Table.ensures (by_kind c.args.rest.now _ _ c.in-Table.is)
-
-pub returns-in-Unknown : goal.returns-in-Unknown
-returns-in-Unknown c = (sym (by_kind c.args.rest.now _ _ c.in-Unknown.is), refl)
+pub returns-in_err-text : goal.returns-in_err-text
+returns-in_err-text g c = rw c.from_residual.ensures (no_text c.args.kind c.args.rest.now c.in_err-text.ensures, refl)

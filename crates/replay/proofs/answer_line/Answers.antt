@@ -4,7 +4,7 @@ use Rattle.replay.proofs.Replaying.{answer-is, no_rest, answered_as}
 use Rattle.replay.proofs.answer_line.Goals as goal
 
 pub returns-then-end-line : goal.returns-then-end-line
-returns-then-end-line c = (no_rest c.find-end.ensures c.if-end-line.true, refl)
+returns-then-end-line g c = (no_rest c.find-end.ensures c.if-end-line.true, refl)
 
 pub returns : goal.returns
-returns c = answered_as c.answer_by.result _ _ _ c.answer_by.ensures (answer-is c.find-end.ensures _ _ c.kind_of-kind.ensures refl)
+returns g c = answered_as c.answer_by.result _ _ c.answer_by.ensures (answer-is c.find-end.ensures _ _ c.kind_of-kind.ensures refl)

@@ -5,27 +5,27 @@ use native.Mathlib.Omega.{arith}
 use Rattle.replay.proofs.answer_lines.Goals as goal
 
 pub loop-at-init : goal.loop-at-init
-loop-at-init c = answering_start c.requires.0 c.requires.1
+loop-at-init g c = answering_start c.clear.ensures
 
 pub returns-then-end-input : goal.returns-then-end-input
-returns-then-end-input c =
+returns-then-end-input g c =
     let e = answering_last c.loop-at.invariant c.find-end.ensures c.if-end-input.true in record { replayed = e.0; result_in_bounds = e.1.0; stopped = e.1.1 }
 
-pub returns-then-out-n-lt-LINE_BYTES : goal.returns-then-out-n-lt-LINE_BYTES
-returns-then-out-n-lt-LINE_BYTES c =
-    let e = answering_full c.loop-at.invariant (omega (arith, c.loop-at.invariant.fits)) in record { replayed = e.0; result_in_bounds = e.1.0; stopped = e.1.1 }
+pub returns-then-remaining_capacity-lt-LINE_BYTES : goal.returns-then-remaining_capacity-lt-LINE_BYTES
+returns-then-remaining_capacity-lt-LINE_BYTES g c =
+    let e = answering_full c.loop-at.invariant (omega (arith, c.remaining_capacity.ensures, c.if-remaining_capacity-lt-LINE_BYTES.true)) in record { replayed = e.0; result_in_bounds = e.1.0; stopped = e.1.1 }
 
 pub answer_line-requires : goal.answer_line-requires
-answer_line-requires c = (omega (arith, c.loop-at.invariant.fits), c.loop-at.invariant.texts, c.loop-at.invariant.scratches)
+answer_line-requires g c = omega (arith, c.remaining_capacity.ensures, c.if-remaining_capacity-lt-LINE_BYTES.false)
 
 pub loop-at-preserved : goal.loop-at-preserved
-loop-at-preserved c = answering_more c.loop-at.invariant _ _ _ c.answer_line.ensures c.find-end.ensures (omega (arith, c.find-end.ensures.high)) refl c.in-Some.is
-    c.answer_line.auto.text c.answer_line.auto.scratch c.answer_line.auto.out (omega (arith, c.loop-at.invariant.fits))
+loop-at-preserved g c =
+    answering_more c.loop-at.invariant _ _ _ c.answer_line.ensures c.find-end.ensures refl (omega (arith, c.find-end.ensures.high, c.if-end-input.false)) c.in-Some.is
 
 pub returns-in-None : goal.returns-in-None
-returns-in-None c =
+returns-in-None g c =
     let e = answering_stop c.loop-at.invariant _ _ _ c.answer_line.ensures c.find-end.ensures refl c.in-None.is in record { replayed = e.0; result_in_bounds = e.1.0; stopped = e.1.1 }
 
 pub returns : goal.returns
-returns c =
+returns g c =
     let e = answering_end c.loop-at.invariant c.loop-at-test.false in record { replayed = e.0; result_in_bounds = e.1.0; stopped = e.1.1 }

@@ -2,4 +2,4 @@ use Rattle.replay.proofs.Replaying.{Between}
 use Rattle.replay.proofs.replay.Given as goal
 
 abbrev pub invariant-loop : goal.invariant-loop
-invariant-loop g l = Between l.initial.input l.initial.text l.initial.scratch l.initial.out l.input l.text l.scratch l.out l.count
+invariant-loop g l = Between l.initial.input l.input l.count

@@ -8,34 +8,35 @@ use Rattle.outcome_lines.proofs.OutcomeLaws.{Reported, drawn_printable, end_repo
 use native.Mathlib.Omega.{arith}
 use borrow.Author.Rules.{rules}
 use Rattle.reports.proofs.put_sheet.Goals as goal
+use Rattle.reports.proofs.put_sheet.Given.{Over}
 use Rattle.reports.proofs.put_sheet.Goals.{After-read_sheet-drawn}
 
-told : (c : After-read_sheet-drawn) → Reported (walked_policy c.args.s.now) record_bytes c.read_sheet-drawn.result c.read_sheet-drawn.new.out
-told c = end_reported sheet_sizes (walked_policy c.args.s.now) _ _ _ _ _ record_bytes (drawn_printable c.args.s.now) (search rules) (search rules) c.read_sheet-drawn.ensures.end
+told : (g : Over) (c : After-read_sheet-drawn g) → Reported (walked_policy c.args.s.now) record_bytes c.read_sheet-drawn.result c.read_sheet-drawn.new.out
+told g c = end_reported sheet_sizes (walked_policy c.args.s.now) _ _ _ _ _ record_bytes (drawn_printable c.args.s.now) (search rules) (search rules) c.read_sheet-drawn.ensures.end
 
 pub slice_bounds-read_sheet-end : goal.slice_bounds-read_sheet-end
-slice_bounds-read_sheet-end c = refl
+slice_bounds-read_sheet-end g c = refl
 
 pub slice_bounds-read_sheet-end-2 : goal.slice_bounds-read_sheet-end-2
-slice_bounds-read_sheet-end-2 c = refl
+slice_bounds-read_sheet-end-2 g c = refl
 
 pub slice_bounds-read_sheet-end-3 : goal.slice_bounds-read_sheet-end-3
-slice_bounds-read_sheet-end-3 c = refl
+slice_bounds-read_sheet-end-3 g c = refl
 
 pub slice_bounds-read_sheet-end-4 : goal.slice_bounds-read_sheet-end-4
-slice_bounds-read_sheet-end-4 c = refl
+slice_bounds-read_sheet-end-4 g c = refl
 
 pub slice_bounds-read_sheet-end-5 : goal.slice_bounds-read_sheet-end-5
-slice_bounds-read_sheet-end-5 c = refl
+slice_bounds-read_sheet-end-5 g c = refl
 
 pub slice_bounds-read_sheet-end-6 : goal.slice_bounds-read_sheet-end-6
-slice_bounds-read_sheet-end-6 c = refl
+slice_bounds-read_sheet-end-6 g c = refl
 
 pub slice_bounds-read_sheet-end-7 : goal.slice_bounds-read_sheet-end-7
-slice_bounds-read_sheet-end-7 c = refl
+slice_bounds-read_sheet-end-7 g c = refl
 
 pub put_outcome-requires : goal.put_outcome-requires
-put_outcome-requires c = (omega (arith, c.requires), omega (arith, c.read_sheet-drawn.auto.out), (told (goal.at.put_outcome-requires c).After-read_sheet-drawn).sound)
+put_outcome-requires g c = (search arith, (omega (arith, c.requires), omega (arith, c.read_sheet-drawn.auto.out), (told g (goal.at.put_outcome-requires g c).After-read_sheet-drawn).sound))
 
 pub returns : goal.returns
-returns c = written_as c.put_outcome.ensures (told (goal.at.returns c).After-read_sheet-drawn).lines
+returns g c = written_as c.put_outcome.ensures (told g (goal.at.returns g c).After-read_sheet-drawn).lines

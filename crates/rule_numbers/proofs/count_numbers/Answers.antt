@@ -1,8 +1,8 @@
 -- `rule_numbers::count_numbers` meets its contract.
 use mathlib.Core.Path.{◌∙◌}
 use Rattle.std.proofs.lemmas.Result.{err_from_is_err_and}
-use Rattle.rule_numbers.proofs.LineLaws.{there, missing}
-use Rattle.rule_numbers.proofs.TextLaws.{line_part}
+use Rattle.lists.proofs.OptionLaws.{there, missing}
+use Rattle.rule_numbers.proofs.HeldLaws.{line_numbered}
 use Rattle.rule_numbers.proofs.CountLaws.{count-start, count_missing, count_other, count_wrong, count_on, count_end}
 use native.Mathlib.Omega.{arith}
 use Rattle.rule_numbers.proofs.count_numbers.Goals as goal
@@ -19,7 +19,7 @@ returns-in_err-c c =
 pub number_in-requires : goal.number_in-requires
 number_in-requires c =
     let e = there c.slot_at.result _ c.in_ok-c.ensures.value ∙ c.slot_at.ensures in
-    line_part c.requires.0 _ _ (omega arith) e
+    line_numbered c.requires.0 _ _ (omega arith) e
 
 pub returns-in_default : goal.returns-in_default
 returns-in_default c =

@@ -1,7 +1,7 @@
 -- `rule_numbers::place_behind` meets its contract.
 use mathlib.Core.Path.{sym, ◌∙◌}
 use Rattle.std.proofs.lemmas.Result.{err_from_is_err_and}
-use Rattle.rule_numbers.proofs.LineLaws.{there, missing}
+use Rattle.lists.proofs.OptionLaws.{there, missing}
 use Rattle.rule_numbers.proofs.PlaceLaws.{look_start, look_missing, look_found, look_on, look_end}
 use native.Mathlib.Omega.{arith}
 use borrow.Author.Rules.{rules}

@@ -2,12 +2,12 @@
 use mathlib.Core.Path.{◌∙◌}
 use borrow.Author.Tests.{lt-ltb, le-ltb}
 use Rattle.std.proofs.lemmas.Result.{err_from_is_err_and}
-use Rattle.rule_numbers.proofs.TextLaws.{held-column}
+use Rattle.rule_numbers.proofs.HeldLaws.{held-column}
 use Rattle.rule_numbers.proofs.NumbersLaws.{left-told, left-refused}
 use Rattle.rule_numbers.proofs.rule_numbers.Goals as goal
 
 pub count_behind-requires : goal.count_behind-requires
-count_behind-requires c = held-column c.requires.0
+count_behind-requires c = held-column c.args.sheet.held
 
 pub returns-then-m-gt0 : goal.returns-then-m-gt0
 returns-then-m-gt0 c =

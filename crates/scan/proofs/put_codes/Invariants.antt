@@ -1,4 +1,3 @@
-use Prim.Native.Nat.{◌-◌}
 use Rattle.scan.proofs.RowPutting.{Putting}
 use Rattle.scan.proofs.put_codes.Given as goal
 

@@ -1,4 +1,3 @@
-use Prim.Native.Nat.{◌-◌}
 use Rattle.scan.proofs.RowPutting.{Filling}
 use Rattle.scan.proofs.put_same.Given as goal
 

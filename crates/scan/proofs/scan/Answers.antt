@@ -21,7 +21,7 @@ pub write_rows-requires : goal.write_rows-requires
 write_rows-requires c =
     let a = c.args in
     let h : c.measure-m.result.rows ≤ canvas_rows = omega arith in
-    scan_room c.sheet_start-start.ensures.start c.measure-m.ensures.measured a.text.now a.body.now h (omega arith) (c.measure-m.ensures.kept h) (omega (arith, c.measure-m.auto.lines)) c.requires.1 c.requires.2
+    scan_room c.sheet_start-start.ensures.start c.measure-m.ensures.measured a.text.now a.body.now h (omega arith) (c.measure-m.ensures.kept h) (omega (arith, c.measure-m.auto.kept)) c.requires.1 c.requires.2
 
 pub returns : goal.returns
 returns c =

@@ -12,9 +12,6 @@ returns-then-j-p c = searching_found c.loop-i.invariant c.loop-i-test.true c.if-
 pub loop-i-preserved-then-s-i : goal.loop-i-preserved-then-s-i
 loop-i-preserved-then-s-i c = searching_more c.loop-i.invariant c.loop-i-test.true c.if-j-p.false c.if-s-i.true
 
-pub shift_after-b-requires : goal.shift_after-b-requires
-shift_after-b-requires c = c.requires.1.room
-
 pub overflow_add-i-else-s-i : goal.overflow_add-i-else-s-i
 overflow_add-i-else-s-i c =
     let w = c.loop-i.invariant in

@@ -1,4 +1,3 @@
-use mathlib.Core.Path.{◌≡◌}
 use Prim.Native.Nat.{◌+◌, ◌-◌}
 use lib.ListN.{length}
 use Rattle.search.proofs.Shifting.{left}
@@ -6,7 +5,7 @@ use Rattle.search.proofs.Building.{Building}
 use Rattle.search.proofs.periods_of.Given as goal
 
 abbrev pub invariant-loop-reach : goal.invariant-loop-reach
-invariant-loop-reach l = (length l.t ≡ length l.initial.t) × Building l.p l.t l.e l.reach l.n l.top
+invariant-loop-reach l = Building l.p l.t.items l.e l.reach (length l.t.items) l.top
 
 -- as in `find`, and one for each byte that no entry reaches yet
 abbrev pub decreases-loop-reach : goal.decreases-loop-reach

@@ -1,6 +1,5 @@
 -- `sheet_rows::measure` meets its contract.
 use mathlib.Core.Path.{refl}
-use Prim.Native.Nat.{◌-◌}
 use native.Mathlib.Omega.{arith}
 use Rattle.sheet_rows.proofs.Measuring.{measuring_start, measuring_none, measuring_more, measuring_last, measuring_end, valid_more}
 use Rattle.sheet_rows.proofs.Keeping.{keeping_start, keeping_none, keeping_more, keeping_last, keeping_end}
@@ -13,7 +12,7 @@ pub returns-then-last-eq-LIGHT_UP_AND_LEFT : goal.returns-then-last-eq-LIGHT_UP_
 returns-then-last-eq-LIGHT_UP_AND_LEFT c =
     let i = c.loop-p.invariant in
     let h = c.loop-p-test.true in
-    let l = c.line_at-l.ensures in record { measured = measuring_last i.0 l.line h c.larger-columns.ensures c.if-count-gt0.true c.if-last-eq-LIGHT_UP_AND_LEFT.true; kept = keeping_last i.1.0 l.line c.if-count-gt0.true c.requires.2 c.keep_line.ensures c.keep_line.auto.lines c.if-last-eq-LIGHT_UP_AND_LEFT.true; valid = (valid_more i.1.1 h l.valid).same }
+    let l = c.line_at-l.ensures in record { measured = measuring_last i.0 l.line h c.max-columns.ensures c.if-count-gt0.true c.if-last-eq-LIGHT_UP_AND_LEFT.true; kept = keeping_last i.1.0 l.line c.if-count-gt0.true c.requires.2 c.keep_row.ensures c.keep_row.auto.rows c.if-last-eq-LIGHT_UP_AND_LEFT.true; valid = (valid_more i.1.1 h l.valid).same }
 
 pub loop-p-smaller-else-last-eq-LIGHT_UP_AND_LEFT : goal.loop-p-smaller-else-last-eq-LIGHT_UP_AND_LEFT
 loop-p-smaller-else-last-eq-LIGHT_UP_AND_LEFT c =
@@ -24,9 +23,9 @@ loop-p-preserved-else-last-eq-LIGHT_UP_AND_LEFT c =
     let i = c.loop-p.invariant in
     let h = c.loop-p-test.true in
     let l = c.line_at-l.ensures in (
-      measuring_more i.0 l.line h c.larger-columns.ensures c.if-count-gt0.true c.if-last-eq-LIGHT_UP_AND_LEFT.false,
+      measuring_more i.0 l.line h c.max-columns.ensures c.if-count-gt0.true c.if-last-eq-LIGHT_UP_AND_LEFT.false,
       (
-        keeping_more i.1.0 l.line c.if-count-gt0.true c.requires.2 c.keep_line.ensures c.keep_line.auto.lines c.if-last-eq-LIGHT_UP_AND_LEFT.false,
+        keeping_more i.1.0 l.line c.if-count-gt0.true c.requires.2 c.keep_row.ensures c.keep_row.auto.rows c.if-last-eq-LIGHT_UP_AND_LEFT.false,
         valid_more i.1.1 h l.valid,
       ),
     )

@@ -1,5 +1,4 @@
 -- `sheet_rows::sheet_start` meets its contract.
-use Prim.Native.Nat.{◌-◌}
 use native.Mathlib.Omega.{arith}
 use Rattle.sheet_rows.proofs.Measuring.{seeking_start, seeking_more, seeking_found, seeking_end, valid_start, valid_more}
 use Rattle.sheet_rows.proofs.sheet_start.Goals as goal

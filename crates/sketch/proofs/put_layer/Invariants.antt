@@ -1,7 +1,6 @@
-use Prim.Native.Nat.{◌-◌}
-use Rattle.lists.specs.Picture.{canvas}
+use Rattle.model.specs.Layers.{picture_of}
 use Rattle.sketch.proofs.LayerLaws.{Layering}
 use Rattle.sketch.proofs.put_layer.Given as goal
 
 abbrev pub invariant-loop-y : goal.invariant-loop-y
-invariant-loop-y l = Layering l.initial.out l.initial.n (canvas l.w l.h l.layer) l.w l.h l.out l.n l.y
+invariant-loop-y g l = Layering l.initial.out.items (picture_of l.layer) l.layer.width l.layer.height l.out.items l.y

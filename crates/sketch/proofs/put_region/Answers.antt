@@ -1,10 +1,12 @@
 -- `sketch::put_region` meets its contract.
-use Rattle.print.proofs.WrittenLaws.{written_then, written_within}
+use Rattle.print.proofs.WrittenLaws.{written_then, written_long, written_within}
 use Rattle.sketch.specs.Drawings.{region_line}
 use native.Mathlib.Omega.{arith}
 use Rattle.sketch.proofs.put_region.Goals as goal
 
+pub put_text-requires : goal.put_text-requires
+put_text-requires g c = omega (arith, c.requires, written_long c.put_rect.ensures)
+
 pub returns : goal.returns
 unfolding region_line
-returns c = let w = c.put_rect-a.ensures in
-    written_within (written_then w c.put_text.ensures (omega (arith, w.short))) (omega arith)
+returns g c = written_within (written_then c.put_rect.ensures c.put_text.ensures) (omega arith)

@@ -1,8 +1,10 @@
 -- `sketch::put_spaced` meets its contract.
+use Rattle.print.proofs.WrittenLaws.{written_one, written_then, written_long}
 use native.Mathlib.Omega.{arith}
-use Rattle.print.proofs.WrittenLaws.{written_then, written_within}
 use Rattle.sketch.proofs.put_spaced.Goals as goal
 
+pub push-requires : goal.push-requires
+push-requires g c = omega (arith, c.requires, written_long c.put_number.ensures)
+
 pub returns : goal.returns
-returns c = let w = c.put_number-a.ensures in
-    written_within (written_then w c.put_word.ensures (omega (arith, w.short))) (omega arith)
+returns g c = written_then c.put_number.ensures (written_one c.push.ensures.items)

@@ -2,14 +2,15 @@
 use Rattle.std.specs.Prelude.{None}
 use mathlib.Core.Path.{sym}
 use Rattle.lists.proofs.Tests.{choose_off}
-use Rattle.slot_runs.proofs.SpeltLaws.{spelt_text, optional_on}
+use Rattle.slot_runs.proofs.SpeltLaws.{appended_text, optional_on}
+use Rattle.slots.specs.ShapedTexts.{bytes_of}
 use Rattle.slots.proofs.put_label.Goals as goal
 
-pub returns-then-l : goal.returns-then-l
-returns-then-l c =
+pub returns-then-s : goal.returns-then-s
+returns-then-s c =
     let p = c.part_at-label.ensures in
-    spelt_text (c.put_optional.ensures c.args.bytes.now p.inside)
-    (optional_on None p.text c.if-l.true)
+    appended_text (c.put_optional.ensures (bytes_of c.args.shaped) p.inside)
+    (optional_on None p.text c.if-s.true)
 
-pub returns : goal.returns
-returns c = spelt_text (c.put_absent.ensures c.args.bytes.now) (sym (choose_off _ _ _ c.if-l.false))
+pub returns-else-s : goal.returns-else-s
+returns-else-s c = appended_text (c.put_absent.ensures (bytes_of c.args.shaped)) (sym (choose_off _ _ _ c.if-s.false))

@@ -3,29 +3,30 @@ use Rattle.std.specs.Prelude.{None}
 use mathlib.Core.Path.{refl, sym, ap}
 use native.Mathlib.Omega.{arith}
 use Rattle.lists.proofs.Tests.{choose_off}
-use Rattle.slot_runs.specs.Spelt.{Room}
+use Rattle.slot_runs.specs.Spelt.{HasRoom}
 use Rattle.slot_runs.proofs.ValueTexts.{value_texts}
-use Rattle.slot_runs.proofs.SpeltLaws.{spelt_then, spelt_as, optional_on, room_next}
+use Rattle.slot_runs.proofs.SpeltLaws.{appended_then, appended_as, optional_on, room_next}
+use Rattle.slots.specs.ShapedTexts.{bytes_of}
 use Rattle.slots.proofs.put_output.Goals as goal
-use Rattle.slots.proofs.put_output.Goals.{After-put_name-a}
+use Rattle.slots.proofs.put_output.Goals.{After-put_name}
 
 -- the room behind the name
-room-behind : (c : After-put_name-a) → Room c.put_name-a.result 2 c.put_name-a.new.slots
-room-behind c = room_next c.requires.1 c.put_name-a.ensures refl (omega arith) c.put_name-a.auto.slots
+room-behind : (c : After-put_name) → HasRoom c.put_name.new.out 2
+room-behind c = room_next c.requires.0 c.put_name.ensures refl (omega arith)
 
 pub put_values-requires : goal.put_values-requires
-put_values-requires c = (room-behind (goal.at.put_values-requires c).After-put_name-a, c.part_at-p.ensures.inside)
+put_values-requires c = (room-behind (goal.at.put_values-requires c).After-put_name, c.part_at-p.ensures.inside)
 
-pub returns-then-l : goal.returns-then-l
-returns-then-l c =
-    let e = rw c.above.ensures at c.part_at-p.ensures.text in
-    spelt_then c.put_name-a.ensures
-    (spelt_as c.put_values.ensures (ap value_texts (optional_on None e c.if-l.true)))
+pub returns-then-s : goal.returns-then-s
+returns-then-s c =
+    let e = rw c.saturating_sub.ensures at c.part_at-p.ensures.text in
+    appended_then c.put_name.ensures
+    (appended_as c.put_values.ensures (ap value_texts (optional_on None e c.if-s.true)))
 
 pub put_no_values-requires : goal.put_no_values-requires
-put_no_values-requires c = room-behind (goal.at.put_no_values-requires c).After-put_name-a
+put_no_values-requires c = room-behind (goal.at.put_no_values-requires c).After-put_name
 
-pub returns : goal.returns
-returns c =
-    spelt_then c.put_name-a.ensures
-    (spelt_as (c.put_no_values.ensures c.args.bytes.now) (ap value_texts (sym (choose_off _ _ None c.if-l.false))))
+pub returns-else-s : goal.returns-else-s
+returns-else-s c =
+    appended_then c.put_name.ensures
+    (appended_as (c.put_no_values.ensures (bytes_of c.args.shaped)) (ap value_texts (sym (choose_off _ _ None c.if-s.false))))

@@ -2,30 +2,30 @@
 use Prim.Native.Nat.{◌+◌}
 use native.Mathlib.Omega.{arith}
 use Rattle.lists.proofs.RunLaws.{length_run}
-use Rattle.slot_runs.specs.Spelt.{Room}
-use Rattle.slot_runs.proofs.SpeltLaws.{spelt_then, room_next, room_less}
+use Rattle.slot_runs.specs.Spelt.{HasRoom}
+use Rattle.slot_runs.proofs.SpeltLaws.{appended_then, room_next, room_less}
 use Rattle.slots.proofs.put_rule.Goals as goal
-use Rattle.slots.proofs.put_rule.Goals.{After-put_row-a}
+use Rattle.slots.proofs.put_rule.Goals.{After-put_row}
 
 -- the room behind the input entries
-room-behind : (c : After-put_row-a) → let s = c.args.s in Room c.put_row-a.result (s.outputs + s.notes.count) c.put_row-a.new.slots
-room-behind c = room_next c.requires.1 c.put_row-a.ensures (length_run _ _ _) (omega arith) c.put_row-a.auto.slots
+room-behind : (c : After-put_row) → let s = c.args.shaped.shape in HasRoom c.put_row.new.out (s.outputs + s.notes.count)
+room-behind c = room_next c.requires.0 c.put_row.ensures (length_run _ _ _) (omega arith)
 
-pub put_row-b-requires : goal.put_row-b-requires
-put_row-b-requires c =
+pub put_row-requires-2 : goal.put_row-requires-2
+put_row-requires-2 c =
     let t = c.requires in
-    (t.0, room_less (room-behind (goal.at.put_row-b-requires c).After-put_row-a) (omega arith), omega (arith, t.2.columns))
+    (c.args.shaped.few, room_less (room-behind (goal.at.put_row-requires-2 c).After-put_row) (omega arith), omega (arith, t.1.columns))
 
-pub overflow_add-n : goal.overflow_add-n
-overflow_add-n c =
+pub overflow_add-s-2 : goal.overflow_add-s-2
+overflow_add-s-2 c =
     let t = c.requires in
-    omega (arith, t.2.notes, t.2.height, t.0.held.fits.rows)
+    omega (arith, t.1.notes, t.1.height, c.args.shaped.sheet.plane.fits.rows)
 
 pub put_notes-requires : goal.put_notes-requires
 put_notes-requires c =
     let t = c.requires in
-    (t.0, room_next (room-behind (goal.at.put_notes-requires c).After-put_row-a) c.put_row-b.ensures (length_run _ _ _) (omega arith) c.put_row-b.auto.slots, t.2.behind)
+    (room_next (room-behind (goal.at.put_notes-requires c).After-put_row) c.put_row-2.ensures (length_run _ _ _) (omega arith), t.1.behind)
 
 pub returns : goal.returns
 returns c =
-    spelt_then c.put_row-a.ensures (spelt_then c.put_row-b.ensures c.put_notes.ensures)
+    appended_then c.put_row.ensures (appended_then c.put_row-2.ensures c.put_notes.ensures)

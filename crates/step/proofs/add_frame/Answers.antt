@@ -4,18 +4,18 @@ use mathlib.Core.Path.{ap, ◌∙◌}
 use Prim.Native.Nat.{◌+◌, ◌*◌, ◌<◌}
 use native.Mathlib.Omega.{arith}
 use lib.ListN.{length}
-use Rattle.lists.specs.Picture.{canvas}
 use Rattle.lists.proofs.PictureLaws.{place-fits}
 use Rattle.cells.proofs.PlaneLaws.{kept_refl}
-use Rattle.walks.specs.Frame.{frame_of}
-use Rattle.walks.specs.Kinds.{grid}
 use Rattle.plane_cells.specs.Made.{row_of}
+use Rattle.step.specs.Made.{frames_in}
 use Rattle.step.proofs.RowLaws.{with_region, no_region_lem, number_at}
 use Rattle.step.proofs.add_frame.Goals as goal
 use Rattle.step.proofs.add_frame.Goals.{Start}
 
-inside : (t : Start) → t.args.y * t.args.w + t.args.x < length t.args.found.now
-inside t = place-fits t.args.h t.args.w t.args.x t.args.y (length t.args.found.now) t.requires.1 t.requires.2 t.requires.0.numbers
+inside : (t : Start) → t.args.at.y * t.args.n.grid.width + t.args.at.x < length t.args.n.found.now
+inside t =
+    let n = t.args.n in
+    place-fits n.grid.height n.grid.width t.args.at.x t.args.at.y (length n.found.now) t.requires.0.column t.requires.0.row n.numbers
 
 pub overflow_mul-k : goal.overflow_mul-k
 overflow_mul-k c = omega (arith, inside (goal.at.overflow_mul-k c).Start, c.well_formed)
@@ -23,36 +23,35 @@ overflow_mul-k c = omega (arith, inside (goal.at.overflow_mul-k c).Start, c.well
 pub overflow_add-k : goal.overflow_add-k
 overflow_add-k c = omega (arith, inside (goal.at.overflow_add-k c).Start, c.well_formed)
 
-pub offset_bounds-found-y : goal.offset_bounds-found-y
-offset_bounds-found-y c = omega (arith, inside (goal.at.offset_bounds-found-y c).Start, c.well_formed)
+pub offset_bounds-n-at : goal.offset_bounds-n-at
+offset_bounds-n-at c = omega (arith, inside (goal.at.offset_bounds-n-at c).Start, c.well_formed)
 
-pub bounds-found-y : goal.bounds-found-y
-bounds-found-y c = inside (goal.at.bounds-found-y c).Start
+pub bounds-n-at : goal.bounds-n-at
+bounds-n-at c = inside (goal.at.bounds-n-at c).Start
 
 pub add_cells-requires : goal.add_cells-requires
 add_cells-requires c =
-    (omega (arith, c.if-k-count.true, c.requires.0.few), c.requires.3, c.requires.4)
+    (omega (arith, c.if-k-n.true, c.args.n.few), c.requires.1, c.requires.2)
 
-pub returns-then-k-count : goal.returns-then-k-count
-returns-then-k-count c =
+pub returns-then-k-n : goal.returns-then-k-n
+returns-then-k-n c =
     let a = c.args in record {
       made = λ rs n m.
           c.add_cells.ensures.made
-          ∙ with_region a.o (frame_of grid (canvas c.args.w c.args.h c.args.layer.now) c.args.w c.args.h) rs a.row a.y a.x (row_of c.args.s c.args.plane.now c.args.row) _ (number_at (frame_of grid (canvas c.args.w c.args.h c.args.layer.now) c.args.w c.args.h) rs a.w a.h a.layer.now a.found.now a.x a.y c.requires.1 c.requires.2 c.requires.5 m) (omega (arith, n, c.if-k-count.true));
+          ∙ with_region a.n.outline (frames_in c.args.n) rs a.row a.at.y a.at.x (row_of c.args.s c.args.plane.now c.args.row) _ (number_at (frames_in c.args.n) rs a.n.grid.width a.n.grid.height a.n.grid.codes.now a.n.found.now a.at.x a.at.y c.requires.0.column c.requires.0.row c.requires.3 m) (omega (arith, n, c.if-k-n.true));
       fits = c.add_cells.ensures.fits;
       before = c.add_cells.ensures.before;
     }
 
 pub why_none-requires : goal.why_none-requires
-why_none-requires c =
-    record { column = c.requires.1; row = c.requires.2; size = c.requires.0.layer.size }
+why_none-requires c = c.requires.0
 
 pub returns : goal.returns
 returns c =
     let a = c.args in record {
       made = λ rs n m.
           ap Err c.why_none.ensures
-          ∙ no_region_lem a.o (frame_of grid (canvas c.args.w c.args.h c.args.layer.now) c.args.w c.args.h) rs a.row a.y a.x (row_of c.args.s c.args.plane.now c.args.row) _ (number_at (frame_of grid (canvas c.args.w c.args.h c.args.layer.now) c.args.w c.args.h) rs a.w a.h a.layer.now a.found.now a.x a.y c.requires.1 c.requires.2 c.requires.5 m) (omega (arith, n, c.if-k-count.false));
+          ∙ no_region_lem a.n.outline (frames_in c.args.n) rs a.row a.at.y a.at.x (row_of c.args.s c.args.plane.now c.args.row) _ (number_at (frames_in c.args.n) rs a.n.grid.width a.n.grid.height a.n.grid.codes.now a.n.found.now a.at.x a.at.y c.requires.0.column c.requires.0.row c.requires.3 m) (omega (arith, n, c.if-k-n.false));
       fits = tt;
       before = kept_refl a.plane.now a.row;
     }

@@ -4,11 +4,11 @@ use Rattle.step.proofs.RowsLaws.{growing_start, growing_more, growing_out, growi
 use Rattle.step.proofs.add_grid_rows.Goals as goal
 
 pub loop-y-init : goal.loop-y-init
-loop-y-init c = growing_start _ _ _ _ _ _ _ c.requires.1
+loop-y-init c = growing_start _ _ _ _ _ _ _ c.requires
 
 pub add_grid_row-requires : goal.add_grid_row-requires
 add_grid_row-requires c =
-    (c.requires.0, c.loop-y-test.true, c.loop-y.invariant.fits)
+    (c.loop-y-test.true, c.loop-y.invariant.fits)
 
 pub returns-in_err-s : goal.returns-in_err-s
 returns-in_err-s c =

@@ -1,27 +1,20 @@
 -- `step::make_row` meets its contract.
 use Rattle.std.proofs.lemmas.Result.{err_from_is_err_and}
-use Prim.Native.Nat.{◌+◌, ◌*◌, ◌≤◌}
 use native.Mathlib.Omega.{arith}
-use lib.ListN.{length}
-use Rattle.lists.proofs.PictureLaws.{row_fits}
 use Rattle.step.proofs.RowLaws.{filling_start, filling_more, filling_out, filling_end}
 use Rattle.step.proofs.make_row.Goals as goal
 use Rattle.step.proofs.make_row.Goals.{Start}
 
--- row y lies in the layer
-row_in : (t : Start) → t.args.y * t.args.w + t.args.w ≤ length t.args.layer.now
-row_in t = row_fits t.args.h t.args.w t.args.y (length t.args.layer.now) t.requires.1 t.requires.0.layer.size
-
 pub corner_in_row-x-requires : goal.corner_in_row-x-requires
-corner_in_row-x-requires c = (omega arith, row_in (goal.at.corner_in_row-x-requires c).Start)
+corner_in_row-x-requires c = (omega arith, c.requires.0)
 
 pub loop-x-init : goal.loop-x-init
-loop-x-init c = filling_start _ _ _ _ _ _ _ _ _ _ _ _ c.requires.1 c.corner_in_row-x.ensures
+loop-x-init c = filling_start _ _ _ _ _ _ _ _ _ _ _ _ c.requires.0 c.corner_in_row-x.ensures
 
 pub add_frame-requires : goal.add_frame-requires
 add_frame-requires c =
     let g = c.loop-x-test.true in
-    (c.requires.0, g, c.requires.1, c.loop-x.invariant.fits, omega (arith, c.loop-x.invariant.long, c.requires.2), c.loop-x.invariant.starts g)
+    (record { column = g; row = c.requires.0 }, c.loop-x.invariant.fits, omega (arith, c.loop-x.invariant.long, c.requires.1), c.loop-x.invariant.starts g)
 
 pub returns-in_err-s : goal.returns-in_err-s
 returns-in_err-s c =
@@ -32,7 +25,7 @@ returns-in_err-s c =
 
 pub corner_in_row-x-requires-in-loop-x : goal.corner_in_row-x-requires-in-loop-x
 corner_in_row-x-requires-in-loop-x c =
-    (omega (arith, c.loop-x-test.true), row_in (goal.at.corner_in_row-x-requires-in-loop-x c).Start)
+    (omega (arith, c.loop-x-test.true), c.requires.0)
 
 pub loop-x-smaller : goal.loop-x-smaller
 loop-x-smaller c = omega (arith, c.loop-x-test.true, c.corner_in_row-x-in-loop-x.ensures.from)
@@ -40,7 +33,7 @@ loop-x-smaller c = omega (arith, c.loop-x-test.true, c.corner_in_row-x-in-loop-x
 pub loop-x-preserved : goal.loop-x-preserved
 loop-x-preserved c =
     let f = c.add_frame.ensures in
-    filling_more c.loop-x.invariant c.loop-x-test.true _ _ f.made f.before f.fits c.add_frame.auto.plane _ c.in_ok-s.was _ c.requires.1 c.corner_in_row-x-in-loop-x.ensures
+    filling_more c.loop-x.invariant c.loop-x-test.true _ _ f.made f.before f.fits c.add_frame.auto.plane _ c.in_ok-s.was _ c.requires.0 c.corner_in_row-x-in-loop-x.ensures
 
 pub returns : goal.returns
 returns c = let q = c.loop-x.invariant in record { made = filling_end q c.loop-x-test.false; fits = q.fits; before = q.kept }

@@ -4,16 +4,13 @@ use Rattle.tables.proofs.NameLaws.{name_part, name_absent}
 use Rattle.tables.proofs.put_name.Goals as goal
 
 pub bounds-spans-0 : goal.bounds-spans-0
-bounds-spans-0 c = omega (arith, c.requires.0 c.if-named.true)
+bounds-spans-0 c = omega (arith, c.requires.0 c.if-named.true, c.args.texts.held.two_each)
 
 pub bounds-spans-1 : goal.bounds-spans-1
-bounds-spans-1 c = omega (arith, c.requires.0 c.if-named.true)
+bounds-spans-1 c = omega (arith, c.requires.0 c.if-named.true, c.args.texts.held.two_each)
 
 pub bounds-spans-1-then-named : goal.bounds-spans-1-then-named
-bounds-spans-1-then-named c = omega (arith, c.requires.0 c.if-named.true)
-
-pub overflow_cast-result : goal.overflow_cast-result
-overflow_cast-result c = omega (arith, c.shared_slice_known-then-named-3-1.given 1)
+bounds-spans-1-then-named c = omega (arith, c.requires.0 c.if-named.true, c.args.texts.held.two_each)
 
 pub returns-then-named : goal.returns-then-named
 returns-then-named c = name_part c.if-named.true c.put_slot.ensures

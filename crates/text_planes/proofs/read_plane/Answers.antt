@@ -9,7 +9,7 @@ use Rattle.text_planes.proofs.DrawnPlaneLaws.{no_regions, no_plane, with_plane, 
 use Rattle.text_planes.proofs.read_plane.Goals as goal
 use Rattle.text_planes.proofs.read_plane.Goals.{In_ok-count}
 
-told : (c : In_ok-count) → regions_in (Ok c.in_ok-count.field-0) c.read_regions.new.rects c.read_regions.new.bytes c.read_regions.new.spans ≡ region_texts_of (canvas c.args.w c.args.h c.args.text.now) (canvas c.args.w c.args.h c.args.thins.now) c.args.w c.args.h
+told : (c : In_ok-count) → regions_in (Ok c.in_ok-count.field-0) c.read_regions.new.rects c.read_regions.new.bytes c.read_regions.new.spans ≡ region_texts_of (canvas c.args.grid.width c.args.grid.height c.args.text.now) (canvas c.args.grid.width c.args.grid.height c.args.thins.now) c.args.grid.width c.args.grid.height
 told c = c.in_ok-count.ensures.answer
 
 used : (c : In_ok-count) → UsedIn (Ok c.in_ok-count.field-0) c.read_regions.new.bytes c.read_regions.new.spans
@@ -24,7 +24,7 @@ pub make_plane-requires : goal.make_plane-requires
 make_plane-requires c =
     let p = c.requires in
     let u = used (goal.at.make_plane-requires c).In_ok-count in
-    (record { layer = p.grid; size = p.regions.layer.size; few = u.0; rects = omega (arith, u.0, p.regions.four_each, c.read_regions.auto.rects) }, p.plane)
+    (u.0, omega (arith, u.0, p.four_each, c.read_regions.auto.rects), p.thin, p.plane)
 
 pub returns-in_err-rows : goal.returns-in_err-rows
 returns-in_err-rows c =
@@ -37,4 +37,4 @@ returns c =
     let t = told (goal.at.returns c).In_ok-count in
     let u = used (goal.at.returns c).In_ok-count in
     let e = c.in_ok-rows.ensures.made in
-    record { answer = with_plane _ _ _ _ _ _ _ t _ e; held = plane-held _ _ _ _ _ _ _ c.read_regions.new.rects _ c.read_regions.new.bytes c.read_regions.new.spans e c.in_ok-rows.ensures.fits u (omega (arith, p.regions.all_texts, c.read_regions.auto.bytes)) (omega (arith, u.0, p.regions.two_each, c.read_regions.auto.spans)) }
+    record { answer = with_plane _ _ _ _ _ _ _ t _ e; held = plane-held _ _ _ _ _ _ _ c.read_regions.new.rects _ c.read_regions.new.bytes c.read_regions.new.spans e c.in_ok-rows.ensures.fits u (omega (arith, p.all_texts, c.read_regions.auto.bytes)) (omega (arith, u.0, p.two_each, c.read_regions.auto.spans)) }

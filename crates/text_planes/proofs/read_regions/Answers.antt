@@ -4,7 +4,7 @@ use Rattle.std.proofs.lemmas.Result.{err_from_is_err_and}
 use mathlib.Core.Path.{◌≡◌}
 use Prim.Native.Nat.{◌≤◌}
 use native.Mathlib.Omega.{arith}
-use Rattle.lists.specs.Picture.{canvas}
+use Rattle.model.specs.Layers.{picture_of}
 use Rattle.model.specs.Limits.{region_count}
 use Rattle.regions.specs.Slices.{regions_in}
 use Rattle.regions.specs.Regions.{regions_of}
@@ -13,17 +13,17 @@ use Rattle.text_planes.proofs.RegionTextLaws.{not_counted, not_gathered, gathere
 use Rattle.text_planes.proofs.read_regions.Goals as goal
 use Rattle.text_planes.proofs.read_regions.Goals.{In_ok-count}
 
-told : (c : In_ok-count) → regions_in (Ok c.in_ok-count.count) c.regions.new.rects ≡ regions_of (canvas c.args.w c.args.h c.args.thins.now) c.args.w c.args.h
+told : (c : In_ok-count) → regions_in (Ok c.in_ok-count.count) c.regions.new.rects ≡ regions_of (picture_of c.args.thins) c.args.thins.width c.args.thins.height
 told c = c.in_ok-count.ensures
 
 few : (c : In_ok-count) → c.in_ok-count.count ≤ region_count
-few c = regions-few (canvas c.args.w c.args.h c.args.thins.now) c.args.w c.args.h c.in_ok-count.count c.regions.new.rects (told c)
+few c = regions-few (picture_of c.args.thins) c.args.thins.width c.args.thins.height c.in_ok-count.count c.regions.new.rects (told c)
 
 pub returns-in_err-count : goal.returns-in_err-count
 returns-in_err-count c =
     let a = c.args in
     let p = err_from_is_err_and c.from_residual.result c.from_residual.ensures.1 in
-    rw (p.1, p.2) (record { answer = not_counted (canvas a.w a.h a.text.now) (canvas a.w a.h a.thins.now) a.w a.h _ c.in_err-count.ensures; used = tt })
+    rw (p.1, p.2) (record { answer = not_counted (picture_of a.text) (picture_of a.thins) a.thins.width a.thins.height _ c.in_err-count.ensures; used = tt })
 
 pub gather-requires : goal.gather-requires
 gather-requires c =
@@ -31,9 +31,8 @@ gather-requires c =
     let p = c.requires in
     let f = few (goal.at.gather-requires c).In_ok-count in
     record {
-      text = p.size;
       rects = omega (arith, c.regions.auto.rects, p.four_each);
-      inside = regions-inside (canvas a.w a.h a.thins.now) a.w a.h c.in_ok-count.count c.regions.new.rects (told (goal.at.gather-requires c).In_ok-count);
+      inside = rw (p.columns, p.rows) (regions-inside (picture_of a.thins) a.thins.width a.thins.height c.in_ok-count.count c.regions.new.rects (told (goal.at.gather-requires c).In_ok-count));
       bytes = p.all_texts;
       spans = omega (arith, p.two_each);
     }
@@ -42,10 +41,10 @@ pub returns-in_err-used : goal.returns-in_err-used
 returns-in_err-used c =
     let a = c.args in
     let p = err_from_is_err_and c.from_residual-in_err-used.result c.from_residual-in_err-used.ensures.1 in
-    rw (p.1, p.2) (record { answer = not_gathered (canvas a.w a.h a.text.now) (canvas a.w a.h a.thins.now) a.w a.h _ (told (goal.at.returns-in_err-used c).In_ok-count) _ c.in_err-used.ensures.answer; used = tt })
+    rw (p.1, p.2) (record { answer = not_gathered (picture_of a.text) (picture_of a.thins) a.thins.width a.thins.height _ (told (goal.at.returns-in_err-used c).In_ok-count) _ c.in_err-used.ensures.answer; used = tt })
 
 pub returns : goal.returns
 returns c =
     let a = c.args in
     let t = told (goal.at.returns c).In_ok-count in
-    record { answer = gathered (canvas a.w a.h a.text.now) (canvas a.w a.h a.thins.now) a.w a.h _ t _ c.in_ok-used.ensures.answer; used = (few (goal.at.returns c).In_ok-count, c.in_ok-used.ensures.spans) }
+    record { answer = gathered (picture_of a.text) (picture_of a.thins) a.thins.width a.thins.height _ t _ c.in_ok-used.ensures.answer; used = (few (goal.at.returns c).In_ok-count, c.in_ok-used.ensures.spans) }

@@ -1,5 +1,4 @@
 -- `texts::gather` meets its contract.
-use Prim.Native.Nat.{◌-◌}
 use lib.ListN.{length-set}
 use Rattle.texts.proofs.Gathering.{gathering_start, gathering_room, gathering_over, gathering_back, gathering_more, gathering_texts, gathering_spans}
 use native.Mathlib.Omega.{arith}

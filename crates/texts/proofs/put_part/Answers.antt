@@ -1,5 +1,4 @@
 -- `texts::put_part` meets its contract.
-use Prim.Native.Nat.{◌-◌}
 use native.Mathlib.Omega.{arith}
 use Rattle.texts.proofs.PartPutting.{encoding_start, encoding_more, encoding_past, encoding_end}
 use Rattle.texts.proofs.put_part.Goals as goal

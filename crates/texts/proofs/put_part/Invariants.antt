@@ -1,4 +1,3 @@
-use Prim.Native.Nat.{◌-◌}
 use Rattle.texts.proofs.PartPutting.{Encoding}
 use Rattle.texts.proofs.put_part.Given as goal
 

@@ -1,7 +1,7 @@
 -- `texts::put_text` meets its contract.
 use mathlib.Core.Path.{sym, subst}
 use Prim.Native.Nat.{◌+◌, ◌-◌}
-use Rattle.lists.specs.Picture.{canvas}
+use Rattle.model.specs.Layers.{picture_of}
 use Rattle.model.specs.Limits.{text_bytes}
 use Rattle.model.specs.declared.Rect.{Rect}
 use Rattle.rects.specs.Rects.{RectIn}
@@ -12,8 +12,8 @@ use native.Mathlib.Omega.{arith}
 use Rattle.texts.proofs.put_text.Goals as goal
 use Rattle.texts.proofs.put_text.Goals.{After-rect_at-r, At-loop-y}
 
-inside : (c : After-rect_at-r) → RectIn c.args.w c.args.h c.rect_at-r.result
-inside c = subst (RectIn c.args.w c.args.h) (sym c.rect_at-r.ensures) c.requires.2
+inside : (c : After-rect_at-r) → RectIn c.args.text.width c.args.text.height c.rect_at-r.result
+inside c = subst (RectIn c.args.text.width c.args.text.height) (sym c.rect_at-r.ensures) c.requires.1
 
 pub overflow_add-from : goal.overflow_add-from
 overflow_add-from c = omega (arith, (inside (goal.at.overflow_add-from c).After-rect_at-r).wide)
@@ -27,10 +27,10 @@ overflow_sub-bottom c = omega (arith, (inside (goal.at.overflow_sub-bottom c).Af
 pub loop-y-init : goal.loop-y-init
 loop-y-init c =
     let p = c.requires in
-    joining_of c.rect_at-r.ensures (joining_start p.0 (inside (goal.at.loop-y-init c).After-rect_at-r) p.3 p.4)
+    joining_of c.rect_at-r.ensures (joining_start c.args.text.sized (inside (goal.at.loop-y-init c).After-rect_at-r) p.2 p.3)
 
 -- the invariant, of the rect that was read
-joining : (c : At-loop-y) → (let a = c.args in let r = c.rect_at-r.result in Joining a.w a.h a.text.now r (r.bottom - 1) a.bytes.now a.start c.loop-y.bytes c.loop-y.y c.loop-y.at)
+joining : (c : At-loop-y) → (let a = c.args in let r = c.rect_at-r.result in Joining a.text.width a.text.height a.text.codes.now r (r.bottom - 1) a.bytes.now a.start c.loop-y.bytes c.loop-y.y c.loop-y.at)
 joining c = joining_of (sym c.rect_at-r.ensures) c.loop-y.invariant
 
 pub overflow_mul-y : goal.overflow_mul-y
@@ -57,7 +57,7 @@ put_next-at-requires c =
 pub returns-then-at-gt-TEXT_BYTES : goal.returns-then-at-gt-TEXT_BYTES
 returns-then-at-gt-TEXT_BYTES c =
     let a = c.args in
-    subst (λ (q : Rect). PutAt (text_of (canvas a.w a.h a.text.now) q) a.bytes.now c.put_next-at.new.bytes a.start (text_bytes + 1)) c.rect_at-r.ensures
+    subst (λ (q : Rect). PutAt (text_of (picture_of a.text) q) a.bytes.now c.put_next-at.new.bytes a.start (text_bytes + 1)) c.rect_at-r.ensures
     (joining_past (joining (goal.at.returns-then-at-gt-TEXT_BYTES c).At-loop-y) c.loop-y-test.true c.trim_codes_part-part.ensures c.put_next-at.ensures c.if-at-gt-TEXT_BYTES.true)
 
 pub loop-y-preserved : goal.loop-y-preserved

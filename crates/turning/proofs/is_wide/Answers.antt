@@ -7,14 +7,14 @@ use Rattle.turning.proofs.is_wide.Goals as goal
 pub loop-row-init : goal.loop-row-init
 loop-row-init c = wide-start _ _ _
 
-pub overflow_cast-plane : goal.overflow_cast-plane
-overflow_cast-plane c = let p = c.requires in record { fits = omega (arith, p.cells _ c.loop-row-test.true) }
+pub width-requires : goal.width-requires
+width-requires c = let f = c.args.plane.fits in omega (arith, f.rows, c.loop-row-test.true)
 
-pub returns-then-plane-row : goal.returns-then-plane-row
-returns-then-plane-row c = narrow _ _ _ _ c.loop-row-test.true c.if-plane-row.true ∙ c.loop-row.invariant
+pub returns-then-width-w : goal.returns-then-width-w
+returns-then-width-w c = narrow _ _ _ _ c.loop-row-test.true (omega (arith, c.width.ensures, c.if-width-w.true)) ∙ c.loop-row.invariant
 
 pub loop-row-preserved : goal.loop-row-preserved
-loop-row-preserved c = wide-next _ _ _ _ c.loop-row-test.true (omega (arith, c.if-plane-row.false)) ∙ c.loop-row.invariant
+loop-row-preserved c = wide-next _ _ _ _ c.loop-row-test.true (omega (arith, c.width.ensures, c.if-width-w.false)) ∙ c.loop-row.invariant
 
 pub returns : goal.returns
 returns c = wide_end _ _ _ _ c.loop-row-test.false ∙ c.loop-row.invariant

@@ -5,4 +5,4 @@ use Rattle.cells.proofs.FillLaws.{PlaneFilled}
 use Rattle.turning.proofs.remove_first_column.Given as goal
 
 abbrev pub invariant-loop-row : goal.invariant-loop-row
-invariant-loop-row l = (l.row ≤ l.n) × PlaneFilled (λ k. drop 1 (row_in l.plane k)) l.initial.out l.out l.row
+invariant-loop-row l = (l.row ≤ l.plane.rows) × PlaneFilled (λ k. drop 1 (row_in l.plane.cells.now k)) l.initial.out l.out l.row

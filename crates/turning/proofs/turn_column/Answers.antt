@@ -9,16 +9,19 @@ use Rattle.turning.proofs.turn_column.Goals as goal
 pub loop-i-init : goal.loop-i-init
 loop-i-init c = (omega arith, row-start _ _ _)
 
+pub cell-requires : goal.cell-requires
+cell-requires c = let f = c.args.plane.fits in (omega (arith, c.loop-i-test.true, f.rows), c.requires.1)
+
 pub put_cell-requires : goal.put_cell-requires
 put_cell-requires c =
-    let f = c.requires in
-    (f.1, omega (arith, c.loop-i-test.true, f.0.fits.rows), omega (arith, c.loop-i.invariant.1.same, f.0.room), subst Small (sym c.turned.ensures) (turned-small c.cell_at.result c.cell_at.ensures.small))
+    let f = c.args.plane.fits in
+    (c.requires.1, omega (arith, c.loop-i-test.true, f.rows), omega (arith, c.loop-i.invariant.1.same, c.requires.0), subst Small (sym c.turned.ensures) (turned-small c.cell.result c.cell.ensures.small))
 
 pub loop-i-preserved : goal.loop-i-preserved
 loop-i-preserved c =
-    (omega (arith, c.loop-i-test.true), row_next _ _ _ _ _ _ _ c.loop-i.invariant.1 (c.turned.ensures ∙ ap turned_cell c.cell_at.ensures.cell) c.put_cell.auto.plane c.put_cell.ensures.cells c.put_cell.ensures.before)
+    (omega (arith, c.loop-i-test.true), row_next _ _ _ _ _ _ _ c.loop-i.invariant.1 (c.turned.ensures ∙ ap turned_cell c.cell.ensures.cell) c.put_cell.auto.plane c.put_cell.ensures.cells c.put_cell.ensures.before)
 
 pub returns : goal.returns
 returns c =
-    let f = row_end _ _ _ _ c.args.n _ c.loop-i.invariant.1 c.loop-i.invariant.0 c.loop-i-test.false in
+    let f = row_end _ _ _ _ c.args.plane.rows _ c.loop-i.invariant.1 c.loop-i.invariant.0 c.loop-i-test.false in
     record { cells = f.cells; before = f.before }

@@ -5,4 +5,4 @@ use Rattle.cells.proofs.FillLaws.{RowFilled}
 use Rattle.turning.proofs.turn_column.Given as goal
 
 abbrev pub invariant-loop-i : goal.invariant-loop-i
-invariant-loop-i l = (l.i ≤ l.n) × RowFilled (λ k. turned_cell (cell_at l.plane k l.j)) l.initial.out l.out l.j l.i
+invariant-loop-i l = (l.i ≤ l.plane.rows) × RowFilled (λ k. turned_cell (cell_at l.plane.cells.now k l.j)) l.initial.out l.out l.j l.i

@@ -5,18 +5,16 @@ use native.Mathlib.Omega.{arith}
 use Rattle.turning.proofs.turn_columns.Goals as goal
 
 pub loop-j-init : goal.loop-j-init
-loop-j-init c = (omega arith, plane-start _ _ c.requires.0.room)
+loop-j-init c = (omega arith, plane-start _ _ c.requires.0)
 
 pub turn_column-requires : goal.turn_column-requires
-turn_column-requires c =
-    let p = c.requires in
-    (record { fits = p.0.fits; room = c.loop-j.invariant.1.fits.room }, omega (arith, c.loop-j-test.true, p.1))
+turn_column-requires c = (c.loop-j.invariant.1.fits.room, omega (arith, c.loop-j-test.true, c.requires.1))
 
 pub end_row-requires : goal.end_row-requires
 end_row-requires c =
-    let p = c.requires in
+    let p = c.args.plane.fits in
     let f = c.loop-j.invariant.1.fits in
-    (kept-fits _ _ _ c.turn_column.ensures.before c.turn_column.auto.out f, omega (arith, c.loop-j-test.true, p.1), omega (arith, p.0.fits.rows))
+    (kept-fits _ _ _ c.turn_column.ensures.before c.turn_column.auto.out f, omega (arith, c.loop-j-test.true, c.requires.1), omega (arith, p.rows))
 
 pub loop-j-preserved : goal.loop-j-preserved
 loop-j-preserved c =

@@ -6,4 +6,5 @@ use Rattle.cells.proofs.FillLaws.{PlaneFilled}
 use Rattle.turning.proofs.turn_columns.Given as goal
 
 abbrev pub invariant-loop-j : goal.invariant-loop-j
-invariant-loop-j l = (l.j ≤ l.w) × PlaneFilled (λ k. build l.n (λ i. turned_cell (cell_at l.plane i k))) l.initial.out l.out l.j
+invariant-loop-j l =
+    (l.j ≤ l.w) × PlaneFilled (λ k. build l.plane.rows (λ i. turned_cell (cell_at l.plane.cells.now i k))) l.initial.out l.out l.j

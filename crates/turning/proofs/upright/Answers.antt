@@ -1,11 +1,6 @@
 -- `turning::upright` meets its contract.
-use Rattle.cells.proofs.PlaneLaws.{fewer_rows}
 use Rattle.turning.proofs.PivotLaws.{row-sheet, column-sheet}
-use native.Mathlib.Omega.{arith}
 use Rattle.turning.proofs.upright.Goals as goal
-
-pub pivot-requires : goal.pivot-requires
-pivot-requires c = let p = c.requires in record { fits = fewer_rows _ _ _ (omega arith) p.0.fits; room = p.0.room }
 
 pub returns-in-RulesAsRows : goal.returns-in-RulesAsRows
 returns-in-RulesAsRows c =

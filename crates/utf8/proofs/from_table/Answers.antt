@@ -26,35 +26,35 @@ returns-then-a-le193 c = let a = c.args in
 
 pub returns-then-a-le223 : goal.returns-then-a-le223
 returns-then-a-le223 c = let a = c.args in
-    here a.s.now a.at _ _ (search rules) c.more1.ensures (row2 (get_or a.s.now a.at 0) (drop (a.at + 1) a.s.now) (search rules) (search rules))
+    here a.s.now a.at _ _ (search rules) c.more.ensures (row2 (get_or a.s.now a.at 0) (drop (a.at + 1) a.s.now) (search rules) (search rules))
 
 pub returns-then-a-le224 : goal.returns-then-a-le224
 returns-then-a-le224 c = let a = c.args in
-    here a.s.now a.at _ _ (search rules) c.more2.ensures (row3 (get_or a.s.now a.at 0) (drop (a.at + 1) a.s.now) (search rules) (search rules))
+    here a.s.now a.at _ _ (search rules) c.more-then-a-le224.ensures (row3 (get_or a.s.now a.at 0) (drop (a.at + 1) a.s.now) (search rules) (search rules))
 
 pub returns-then-a-le236 : goal.returns-then-a-le236
 returns-then-a-le236 c = let a = c.args in
-    here a.s.now a.at _ _ (search rules) c.more2-then-a-le236.ensures (row4 (get_or a.s.now a.at 0) (drop (a.at + 1) a.s.now) (search rules) (search rules))
+    here a.s.now a.at _ _ (search rules) c.more-then-a-le236.ensures (row4 (get_or a.s.now a.at 0) (drop (a.at + 1) a.s.now) (search rules) (search rules))
 
 pub returns-then-a-le237 : goal.returns-then-a-le237
 returns-then-a-le237 c = let a = c.args in
-    here a.s.now a.at _ _ (search rules) c.more2-then-a-le237.ensures (row5 (get_or a.s.now a.at 0) (drop (a.at + 1) a.s.now) (search rules) (search rules))
+    here a.s.now a.at _ _ (search rules) c.more-then-a-le237.ensures (row5 (get_or a.s.now a.at 0) (drop (a.at + 1) a.s.now) (search rules) (search rules))
 
 pub returns-then-a-le239 : goal.returns-then-a-le239
 returns-then-a-le239 c = let a = c.args in
-    here a.s.now a.at _ _ (search rules) c.more2-then-a-le239.ensures (row6 (get_or a.s.now a.at 0) (drop (a.at + 1) a.s.now) (search rules) (search rules))
+    here a.s.now a.at _ _ (search rules) c.more-then-a-le239.ensures (row6 (get_or a.s.now a.at 0) (drop (a.at + 1) a.s.now) (search rules) (search rules))
 
 pub returns-then-a-le240 : goal.returns-then-a-le240
 returns-then-a-le240 c = let a = c.args in
-    here a.s.now a.at _ _ (search rules) c.more3.ensures (row7 (get_or a.s.now a.at 0) (drop (a.at + 1) a.s.now) (search rules) (search rules))
+    here a.s.now a.at _ _ (search rules) c.more-then-a-le240.ensures (row7 (get_or a.s.now a.at 0) (drop (a.at + 1) a.s.now) (search rules) (search rules))
 
 pub returns-then-a-le243 : goal.returns-then-a-le243
 returns-then-a-le243 c = let a = c.args in
-    here a.s.now a.at _ _ (search rules) c.more3-then-a-le243.ensures (row8 (get_or a.s.now a.at 0) (drop (a.at + 1) a.s.now) (search rules) (search rules))
+    here a.s.now a.at _ _ (search rules) c.more-then-a-le243.ensures (row8 (get_or a.s.now a.at 0) (drop (a.at + 1) a.s.now) (search rules) (search rules))
 
 pub returns-then-a-le244 : goal.returns-then-a-le244
 returns-then-a-le244 c = let a = c.args in
-    here a.s.now a.at _ _ (search rules) c.more3-then-a-le244.ensures (row9 (get_or a.s.now a.at 0) (drop (a.at + 1) a.s.now) (search rules) (search rules))
+    here a.s.now a.at _ _ (search rules) c.more-then-a-le244.ensures (row9 (get_or a.s.now a.at 0) (drop (a.at + 1) a.s.now) (search rules) (search rules))
 
 pub returns : goal.returns
 returns c = let a = c.args in

@@ -1,11 +1,12 @@
 -- `utf8::next` meets its contract.
 use mathlib.Core.Path.{sym, ap, ◌∙◌}
-use Prim.Native.Nat.{◌+◌}
+use Prim.Native.Nat.{◌+◌, ◌<◌}
 use lib.ListN.{length, get_or, drop}
 use borrow.Author.Rules.{rules}
 use Rattle.utf8.proofs.Utf8Laws.{decode_end, decode-at, row1, row4, encode2, encode3, encode4}
-use Rattle.utf8.proofs.RareLaws.{told_bad, told}
+use Rattle.utf8.proofs.RareLaws.{bad_code, high_code, told_code}
 use Rattle.utf8.proofs.next.Goals as goal
+use Rattle.utf8.proofs.next.Goals.{In-Some}
 
 pub returns-then-s-at : goal.returns-then-s-at
 returns-then-s-at c =
@@ -22,22 +23,26 @@ returns-then-s-at-gt2 c =
     let a = c.args in
     c.two_more.ensures ∙ sym (decode-at a.s.now a.at (search rules) ∙ row4 (get_or a.s.now a.at 0) (drop (a.at + 1) a.s.now) (search rules) (search rules))
 
-pub returns-then-c-le127 : goal.returns-then-c-le127
-returns-then-c-le127 c =
+pub returns-in_default : goal.returns-in_default
+returns-in_default c =
     let a = c.args in
-    sym (told_bad a.s.now a.at (search rules) (search rules) _ c.rare-c.ensures c.if-c-le127.true)
+    sym (bad_code a.s.now a.at (search rules) (sym c.in_default.is ∙ c.rare.ensures))
+
+-- the code point is no ASCII
+past : (c : In-Some) → 0x7F < c.in-Some.c
+past c = high_code c.args.s.now c.args.at (search rules) (search rules) _ (sym c.in-Some.is ∙ c.rare.ensures)
 
 pub returns-then-c-le2047 : goal.returns-then-c-le2047
 returns-then-c-le2047 c =
     let a = c.args in
-    sym (told (drop a.at a.s.now) _ 2 c.rare-c.ensures c.if-c-le127.false (ap length (encode2 _ c.if-c-le127.false c.if-c-le2047.true)))
+    sym (told_code (drop a.at a.s.now) _ 2 (sym c.in-Some.is ∙ c.rare.ensures) (ap length (encode2 _ (past (goal.at.returns-then-c-le2047 c).In-Some) c.if-c-le2047.true)))
 
 pub returns-then-c-le65535 : goal.returns-then-c-le65535
 returns-then-c-le65535 c =
     let a = c.args in
-    sym (told (drop a.at a.s.now) _ 3 c.rare-c.ensures c.if-c-le127.false (ap length (encode3 _ c.if-c-le2047.false c.if-c-le65535.true)))
+    sym (told_code (drop a.at a.s.now) _ 3 (sym c.in-Some.is ∙ c.rare.ensures) (ap length (encode3 _ c.if-c-le2047.false c.if-c-le65535.true)))
 
 pub returns : goal.returns
 returns c =
     let a = c.args in
-    sym (told (drop a.at a.s.now) _ 4 c.rare-c.ensures c.if-c-le127.false (ap length (encode4 _ c.if-c-le65535.false)))
+    sym (told_code (drop a.at a.s.now) _ 4 (sym c.in-Some.is ∙ c.rare.ensures) (ap length (encode4 _ c.if-c-le65535.false)))

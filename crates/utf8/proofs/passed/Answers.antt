@@ -1,39 +1,42 @@
 -- `utf8::passed` meets its contract.
 use mathlib.Core.Path.{sym, ap, ◌∙◌}
-use Prim.Native.Nat.{◌+◌}
+use Prim.Native.Nat.{◌+◌, ◌<◌}
 use lib.ListN.{length, get_or, drop}
 use borrow.Author.Rules.{rules}
-use Rattle.utf8.specs.Passed.{bytes_of}
+use Rattle.utf8.specs.Passed.{bytes_in}
 use Rattle.utf8.proofs.Utf8Laws.{decode-at, row1, row4, encode2, encode3, encode4}
-use Rattle.utf8.proofs.RareLaws.{told_bad, told}
+use Rattle.utf8.proofs.RareLaws.{bad_code, high_code, told_code}
 use Rattle.utf8.proofs.passed.Goals as goal
+use Rattle.utf8.proofs.passed.Goals.{In_ok-c}
 
 pub returns-then-a-le127 : goal.returns-then-a-le127
 returns-then-a-le127 c =
     let a = c.args in
-    sym (ap bytes_of (decode-at a.s.now a.at (search rules) ∙ row1 (get_or a.s.now a.at 0) (drop (a.at + 1) a.s.now) (search rules)))
+    sym (ap bytes_in (decode-at a.s.now a.at (search rules) ∙ row1 (get_or a.s.now a.at 0) (drop (a.at + 1) a.s.now) (search rules)))
 
 pub returns-then-s-at-gt2 : goal.returns-then-s-at-gt2
 returns-then-s-at-gt2 c =
     let a = c.args in
-    c.bytes_of.ensures ∙ ap bytes_of (c.two_more.ensures ∙ sym (decode-at a.s.now a.at (search rules) ∙ row4 (get_or a.s.now a.at 0) (drop (a.at + 1) a.s.now) (search rules) (search rules)))
+    c.bytes_in.ensures ∙ ap bytes_in (c.two_more.ensures ∙ sym (decode-at a.s.now a.at (search rules) ∙ row4 (get_or a.s.now a.at 0) (drop (a.at + 1) a.s.now) (search rules) (search rules)))
 
-pub returns-then-c-le127 : goal.returns-then-c-le127
-returns-then-c-le127 c =
-    let a = c.args in
-    sym (ap bytes_of (told_bad a.s.now a.at (search rules) (search rules) _ c.rare-c.ensures c.if-c-le127.true))
+pub returns-in_err-c : goal.returns-in_err-c
+returns-in_err-c c = rw c.from_residual.ensures (sym (ap bytes_in (bad_code c.args.s.now c.args.at c.requires c.in_err-c.ensures)))
+
+-- the code point is no ASCII
+past : (c : In_ok-c) → 0x7F < c.in_ok-c.c
+past c = high_code c.args.s.now c.args.at (search rules) (search rules) _ c.in_ok-c.ensures
 
 pub returns-then-c-le2047 : goal.returns-then-c-le2047
 returns-then-c-le2047 c =
     let a = c.args in
-    sym (ap bytes_of (told (drop a.at a.s.now) _ 2 c.rare-c.ensures c.if-c-le127.false (ap length (encode2 _ c.if-c-le127.false c.if-c-le2047.true))))
+    sym (ap bytes_in (told_code (drop a.at a.s.now) _ 2 c.in_ok-c.ensures (ap length (encode2 _ (past (goal.at.returns-then-c-le2047 c).In_ok-c) c.if-c-le2047.true))))
 
 pub returns-then-c-le65535 : goal.returns-then-c-le65535
 returns-then-c-le65535 c =
     let a = c.args in
-    sym (ap bytes_of (told (drop a.at a.s.now) _ 3 c.rare-c.ensures c.if-c-le127.false (ap length (encode3 _ c.if-c-le2047.false c.if-c-le65535.true))))
+    sym (ap bytes_in (told_code (drop a.at a.s.now) _ 3 c.in_ok-c.ensures (ap length (encode3 _ c.if-c-le2047.false c.if-c-le65535.true))))
 
 pub returns : goal.returns
 returns c =
     let a = c.args in
-    sym (ap bytes_of (told (drop a.at a.s.now) _ 4 c.rare-c.ensures c.if-c-le127.false (ap length (encode4 _ c.if-c-le65535.false))))
+    sym (ap bytes_in (told_code (drop a.at a.s.now) _ 4 c.in_ok-c.ensures (ap length (encode4 _ c.if-c-le65535.false))))

@@ -1,13 +1,13 @@
 -- `utf8::rare` meets its contract.
 use mathlib.Core.Path.{sym, ap, ◌∙◌}
-use Rattle.utf8.specs.Passed.{code_of}
+use Rattle.utf8.specs.Passed.{code_in}
 use Rattle.utf8.proofs.rare.Goals as goal
 
 pub returns-in-Char : goal.returns-in-Char
-returns-in-Char c = sym (ap code_of (sym c.from_table-d.ensures ∙ c.in-Char.is))
+returns-in-Char c = sym (ap code_in (sym c.from_table.ensures ∙ c.in-Char.is))
 
 pub returns-in-IllFormed : goal.returns-in-IllFormed
-returns-in-IllFormed c = sym (ap code_of (sym c.from_table-d.ensures ∙ c.in-IllFormed.is))
+returns-in-IllFormed c = sym (ap code_in (sym c.from_table.ensures ∙ c.in-IllFormed.is))
 
 pub returns-in-End : goal.returns-in-End
-returns-in-End c = sym (ap code_of (sym c.from_table-d.ensures ∙ c.in-End.is))
+returns-in-End c = sym (ap code_in (sym c.from_table.ensures ∙ c.in-End.is))

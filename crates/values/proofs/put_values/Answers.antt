@@ -1,16 +1,15 @@
 -- `values::put_values` meets its contract.
 use mathlib.Core.Path.{refl}
-use borrow.Author.Rules.{rules}
 use Rattle.values.proofs.ValueLaws.{part_sizes, allowed-plain, allowed-marked}
 use Rattle.values.proofs.put_values.Goals as goal
 
-pub periods_of-k-requires : goal.periods_of-k-requires
-periods_of-k-requires c = ((part_sizes c.in-Some.ensures).0, search rules)
+pub periods_of-t-requires : goal.periods_of-t-requires
+periods_of-t-requires c = (part_sizes c.in-Some.ensures).0
 
 pub rewrite-requires : goal.rewrite-requires
 rewrite-requires c =
     let e = c.in-Some.ensures in
-    record { p_nonzero = ((part_sizes e).0, rw (allowed-marked e) at c.requires); periods = c.periods_of-k.ensures }
+    record { p_nonzero = ((part_sizes e).0, rw (allowed-marked e) at c.requires); periods = rw c.as_slice.ensures.value c.periods_of-t.ensures }
 
 pub returns-in-Some : goal.returns-in-Some
 returns-in-Some c =

@@ -7,25 +7,27 @@ use native.Mathlib.Omega.{arith}
 use Rattle.walks.proofs.go.Goals as goal
 use Rattle.walks.proofs.go.Goals.{Start}
 
-here : (t : Start) → t.args.y * t.args.w + t.args.x < length t.args.layer.now
+here : (t : Start) → t.args.at.y * t.args.layer.width + t.args.at.x < length t.args.layer.codes.now
 here t =
-    let a = t.args in
-    place_in a.w a.h a.x a.y (length a.layer.now) t.requires
+    let l = t.args.layer in
+    place_in l.width l.height t.args.at.x t.args.at.y (length l.codes.now) t.requires l.sized
 
-pub overflow_mul-y : goal.overflow_mul-y
-overflow_mul-y c = omega (arith, here (goal.at.overflow_mul-y c).Start, c.well_formed.1.0.0)
+pub overflow_mul-at : goal.overflow_mul-at
+overflow_mul-at c = omega (arith, here (goal.at.overflow_mul-at c).Start, c.well_formed)
 
-pub overflow_add-y : goal.overflow_add-y
-overflow_add-y c = omega (arith, here (goal.at.overflow_add-y c).Start, c.well_formed.1.0.0)
+pub overflow_add-at : goal.overflow_add-at
+overflow_add-at c = omega (arith, here (goal.at.overflow_add-at c).Start, c.well_formed)
 
 pub walk_line-requires : goal.walk_line-requires
 walk_line-requires c =
     let a = c.args in
+    let l = a.layer in
     rw (c.is_back.ensures, c.step_of.ensures, c.ahead.ensures)
-    (dir_reach a.w a.h a.x a.y (length a.layer.now) c.requires a.d)
+    (dir_reach l.width l.height a.at.x a.at.y (length l.codes.now) c.requires l.sized a.d)
 
 pub returns : goal.returns
 returns c ss aa e =
     let a = c.args in
+    let l = a.layer in
     rw (c.is_back.ensures, c.step_of.ensures, c.ahead.ensures) at (c.walk_line.ensures ss aa e)
-    ∙ dir_walk a.w a.h a.x a.y (length a.layer.now) c.requires a.d a.layer.now ss aa
+    ∙ dir_walk l.width l.height a.at.x a.at.y c.requires a.d l.codes.now ss aa

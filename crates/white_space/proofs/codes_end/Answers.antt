@@ -1,6 +1,6 @@
 -- `white_space::codes_end` meets its contract. The invariant: what is trimmed from the end is the same up to `to`.
 use mathlib.Core.Path.{◌≡◌, sym, ap, ◌∙◌}
-use Prim.Native.Nat.{ℕ, ◌+◌, ◌-◌, ◌≤◌}
+use Prim.Native.Nat.{ℕ, ◌+◌, ◌≤◌}
 use borrow.Author.Rules.{rules}
 use native.Mathlib.Nat.{le_refl}
 use native.Mathlib.Omega.{arith}

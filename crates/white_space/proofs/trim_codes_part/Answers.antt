@@ -3,4 +3,4 @@ use Rattle.white_space.proofs.PartLaws.{part_in}
 use Rattle.white_space.proofs.trim_codes_part.Goals as goal
 
 pub returns : goal.returns
-returns c = part_in c.requires c.trim_codes-r.ensures
+returns c = rw (c.behind.ensures.0, c.behind.ensures.1) (part_in c.requires c.trim_codes.ensures)

@@ -1,6 +1,5 @@
 -- `white_space::trim_utf8` meets its contract.
 use mathlib.Core.Path.{sym, ◌∙◌}
-use Prim.Native.Nat.{◌-◌}
 use Rattle.white_space.proofs.TrimUtf8Laws.{trimming_start, trimming_stop, trimming_none, trimming_end, trimming_fits, trimming_white, trimming_dark}
 use native.Mathlib.Omega.{arith}
 use Rattle.white_space.proofs.trim_utf8.Goals as goal

@@ -1,6 +1,5 @@
 -- `white_space::utf8_start` meets its contract.
 use mathlib.Core.Path.{sym, ◌∙◌}
-use Prim.Native.Nat.{◌-◌}
 use Rattle.utf8.proofs.Utf8Laws.{codes_bad, codes-none}
 use Rattle.white_space.proofs.TrimUtf8Laws.{leading_start, leading_stop, leading_end, leading_fits, leading_white, leading_dark}
 use native.Mathlib.Omega.{arith}

@@ -1,0 +1,35 @@
+-- `replay::answer_text` meets its contract.
+use mathlib.Core.Path.{refl, sym, ap}
+use Prim.Native.Nat.{ℕ}
+use lib.ListN.{length-replicate}
+use Rattle.print.proofs.WrittenLaws.{written_as, written_within}
+use Rattle.answers.specs.SplitLines.{split_line}
+use Rattle.replay.proofs.Replaying.{by_kind, answered_as}
+use native.Mathlib.Omega.{arith}
+use Rattle.replay.proofs.answer_text.Goals as goal
+
+pub slice_bounds-put_split_line-end : goal.slice_bounds-put_split_line-end
+slice_bounds-put_split_line-end g c = sym (length-replicate {A = ℕ} 61440 0)
+
+pub put_split_line-requires : goal.put_split_line-requires
+put_split_line-requires g c = (search arith, (c.requires.0, c.requires.1, omega (arith, length-replicate {A = ℕ} 61440 0)))
+
+pub returns-in-Split : goal.returns-in-Split
+returns-in-Split g c =
+    let t = c.args.text.now in
+    (_, (by_kind t c.in-Split.is, written_as c.put_split_line.ensures (ap (λ (m : ℕ). split_line m t) (length-replicate {A = ℕ} 61440 0))))
+
+pub returns-in-Drawing : goal.returns-in-Drawing
+returns-in-Drawing g c = (_, (by_kind c.args.text.now c.in-Drawing.is, c.put_drawing.ensures))
+
+pub returns-in-Plane : goal.returns-in-Plane
+returns-in-Plane g c = answered_as c.answer_lent.result _ _ c.answer_lent.ensures (sym (by_kind c.args.text.now c.in-Plane.is))
+
+pub returns-in-Sheet : goal.returns-in-Sheet
+returns-in-Sheet g c = (_, (by_kind c.args.text.now c.in-Sheet.is, written_within c.put_sheet.ensures (omega arith)))
+
+pub returns-in-Table : goal.returns-in-Table
+returns-in-Table g c = answered_as c.answer_lent-in-Table.result _ _ c.answer_lent-in-Table.ensures (sym (by_kind c.args.text.now c.in-Table.is))
+
+pub returns-in-Unknown : goal.returns-in-Unknown
+returns-in-Unknown g c = (by_kind c.args.text.now c.in-Unknown.is, refl)

@@ -1,0 +1,2 @@
+pub mod ShapedTexts
+pub mod Steps
