@@ -1,5 +1,5 @@
 -- Laws of planes and texts in slices.
 pub mod PlaneLaws
-pub mod FillLaws
+pub mod WriterLaws
 pub mod SpanLaws
 pub mod AmongLaws

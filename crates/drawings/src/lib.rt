@@ -1,11 +1,11 @@
 // What is printed for a sheet, as the judge of the Rust prints it.
 #![tactic(auto)]
 
-ghost use Rattle.std.specs.Prelude.{◌+◌, ◌*◌, ◌≤◌, length};
+ghost use Rattle.std.specs.Prelude.{◌+◌, ◌≤◌};
 ghost use Rattle.arrayvec.specs.ArrayVec.{array_vec_len};
 ghost use Rattle.model.specs.Layers.{picture_of};
 ghost use Rattle.model.specs.Limits.{region_count};
-ghost use Rattle.rects.specs.Rects.{rects_of};
+ghost use Rattle.rects.specs.Rects.{rects_in};
 ghost use Rattle.step.specs.PlaneStep.{plane_of};
 ghost use Rattle.text_planes.specs.RegionTexts.{region_texts_of};
 ghost use Rattle.print.specs.Decimal.{Written};
@@ -20,22 +20,17 @@ use cells::texts::Texts;
 use model::layer::Layer;
 use model::limits::CANVAS_SIZE;
 use outline::Outline;
+use rects::list::Rects;
 
 // The plane of GRID, whose regions are known; or why there is none.
-fn put_step<const N: usize>(
-    out: &mut ArrayVec<u8, N>,
-    o: Outline,
-    grid: Layer,
-    rects: &[u32],
-    count: usize,
-)
-    requires { (array_vec_len out.old + plane_bytes ≤ N) × OnCanvas grid × (count ≤ region_count) × (count * 4 ≤ length rects.now) }
-    ensures { Written out.old.items out.new.items (plane_printed (plane_of o (rects_of rects.now count) (picture_of grid.entry) grid.entry.width grid.entry.height)) plane_bytes }
+fn put_step<const N: usize>(out: &mut ArrayVec<u8, N>, o: Outline, grid: Layer, rects: Rects)
+    requires { (array_vec_len out.old + plane_bytes ≤ N) × OnCanvas grid × (rects.count ≤ region_count) }
+    ensures { Written out.old.items out.new.items (plane_printed (plane_of o (rects_in rects.entry) (picture_of grid.entry) grid.entry.width grid.entry.height)) plane_bytes }
 {
     // Work slices, as a caller in C lends them: nothing is allocated.
     let mut found = [0u32; CANVAS_SIZE];
     let mut plane = [0u32; 4160];
-    match step::make_plane(o, grid, rects, count, &mut found, &mut plane) {
+    match step::make_plane(o, grid, rects, &mut found, &mut plane) {
         Ok(rows) => {
             let cells = &plane;
             plane_lines::put_plane(out, Plane { cells, rows })
@@ -60,14 +55,18 @@ fn put_regions<const N: usize>(
     let mut spans = [0u32; 2048];
     match text_planes::read_regions(text, thins, &mut rects, &mut bytes, &mut spans) {
         Ok(g) => {
+            let rects = Rects {
+                numbers: &rects,
+                count: g.count,
+            };
             let texts = Texts {
                 bytes: &bytes,
                 spans: &spans,
                 count: g.count,
             };
-            sketch::put_regions(out, &rects, texts);
+            sketch::put_regions(out, rects, texts);
             sketch::put_name(out, texts, o.named);
-            put_step(out, o, grid, &rects, g.count)
+            put_step(out, o, grid, rects)
         }
         Err(r) => print::put_refusal(out, r),
     }

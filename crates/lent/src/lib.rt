@@ -4,14 +4,15 @@
 ghost use Rattle.std.specs.Prelude.{◌≡◌, ◌+◌, ◌*◌, ◌^◌, ◌≤◌, ◌<◌, leb, length, get_or, take, drop};
 ghost use Rattle.lists.specs.Run.{build};
 ghost use Rattle.model.specs.Cells.{cell_of_kind};
-ghost use Rattle.model.specs.Limits.{plane_rows, plane_cells, plane_size};
-ghost use Rattle.cells.specs.Plane.{cells_in, plane_in, PlaneFits, KeptBefore};
+ghost use Rattle.model.specs.Limits.{plane_rows, plane_cells};
+ghost use Rattle.cells.specs.Written.{next_row, Kept, Holds};
 ghost use Rattle.white_space.specs.Trim.{trim_utf8};
 ghost use Rattle.cells.specs.Spans.{texts_in};
 ghost use Rattle.lent.specs.LentPlane.{sum, all_at, known_cell, good_part, within_limits, counts_agree, cells_known, parts_good, well_formed, cut, lent_of};
 ghost use Rattle.lent.specs.Lent.{lists_of};
 ghost use Rattle.lent.specs.Held.{CellsGood, RowsGood, PartsGood, SpansIn, Room, loaded_in, LoadedHeld};
 
+use cells::plane_writer::PlaneWriter;
 use model::limits::{PLANE_CELLS, PLANE_ROWS, REGIONS, TEXT_BYTES};
 use model::{Cell, Refusal};
 
@@ -165,29 +166,29 @@ fn cell_of_kind(kind: u8, region: u32) -> Cell
     }
 }
 
-// The n cells from a place on, as a row of the plane.
-fn load_row(kinds: &[u8], regions: &[u32], at: usize, n: usize, plane: &mut [u32], row: usize)
-    requires { CellsGood kinds.now regions.now × (at + n ≤ length kinds.now) × (n ≤ plane_cells) × (row < plane_rows) × (plane_size ≤ length plane.old) }
-    ensures cells { cells_in plane.new row n ≡ build n (λ i. cell_of_kind (get_or kinds.now (at + i) 0) (get_or regions.now (at + i) 0)) }
-    ensures before { KeptBefore plane.old plane.new row }
+// The n cells from a place on, as the next row of the plane, not yet ended.
+fn load_row(kinds: &[u8], regions: &[u32], at: usize, n: usize, plane: &mut PlaneWriter)
+    requires { CellsGood kinds.now regions.now × (at + n ≤ length kinds.now) × (n ≤ plane_cells) × (plane.old.rows < plane_rows) }
+    ensures cells { next_row plane.new n ≡ build n (λ i. cell_of_kind (get_or kinds.now (at + i) 0) (get_or regions.now (at + i) 0)) }
+    ensures kept { Kept plane.old plane.new }
 {
     for i in 0..n {
         let c = cell_of_kind(kinds[at + i], regions[at + i]);
-        cells::put_cell(plane, row, i, c);
+        plane.put_cell(i, c);
     }
 }
 
-// The rows of a lent plane, in the plane's slice.
-fn load_rows(rows: &[u32], kinds: &[u8], regions: &[u32], plane: &mut [u32])
-    requires { RowsGood rows.now kinds.now regions.now × (plane_size ≤ length plane.old) }
-    ensures plane { plane_in plane.new (length rows.now) ≡ cut rows.now (build (length kinds.now) (λ k. cell_of_kind (get_or kinds.now k 0) (get_or regions.now k 0))) }
-    ensures fits { PlaneFits plane.new (length rows.now) }
+// The rows of a lent plane.
+fn load_rows(rows: &[u32], kinds: &[u8], regions: &[u32], plane: &mut PlaneWriter)
+    requires { RowsGood rows.now kinds.now regions.now × (plane.old.rows ≡ 0) }
+    ensures rows { plane.new.rows ≡ length rows.now }
+    ensures plane { Holds plane.old plane.new (cut rows.now (build (length kinds.now) (λ k. cell_of_kind (get_or kinds.now k 0) (get_or regions.now k 0)))) }
 {
     let mut at = 0;
     for row in 0..rows.len() {
         let n = rows[row] as usize;
-        load_row(kinds, regions, at, n, plane, row);
-        cells::end_row(plane, row, n);
+        load_row(kinds, regions, at, n, plane);
+        plane.end_row(n);
         at += n;
     }
 }
@@ -216,7 +217,11 @@ pub fn load(l: Lent, plane: &mut [u32], spans: &mut [u32]) -> Result<usize, Refu
     if !is_well_formed(l) {
         return Err(Refusal::LentPlaneMalformed);
     }
-    load_rows(l.rows, l.kinds, l.regions, plane);
+    let mut writer = PlaneWriter {
+        cells: plane,
+        rows: 0,
+    };
+    load_rows(l.rows, l.kinds, l.regions, &mut writer);
     load_texts(l.offsets, l.sizes, l.bytes, spans);
     Ok(l.rows.len())
 }

@@ -5,7 +5,7 @@
 ghost use Rattle.std.specs.Prelude.{◌≡◌, ◌++◌, ◌+◌, ◌*◌, ◌<◌, ◌≤◌, ◌^◌, length, take, drop};
 ghost use Rattle.model.specs.Layers.{picture_of};
 ghost use Rattle.model.specs.Limits.{region_count};
-ghost use Rattle.rects.specs.Rects.{rects_of};
+ghost use Rattle.rects.specs.Rects.{rects_in};
 ghost use Rattle.walks.specs.Frame.{frame_of};
 ghost use Rattle.walks.specs.Kinds.{grid};
 ghost use Rattle.lookup.specs.Lookup.{first_of, Numbered};
@@ -14,30 +14,30 @@ ghost use Rattle.lookup.specs.Numbers.{Above, number_in, Seen, Stored, Without, 
 use model::layer::Layer;
 use model::limits::REGIONS;
 use model::{Point, Rect};
+use rects::list::Rects;
 
-// The first `count` rects, in row order.
-fn fill(rects: &mut [Rect], nums: &[u32], count: usize)
-    requires { (count ≤ length rects.old) × (count * 4 ≤ length nums.now) }
-    ensures { rects.new ≡ rects_of nums.now count ++ drop count rects.old }
+// The rects, in row order, at the front of a run.
+fn fill(run: &mut [Rect], rects: Rects)
+    requires { rects.count ≤ length run.old }
+    ensures { run.new ≡ rects_in rects.entry ++ drop rects.entry.count run.old }
 {
-    for i in 0..count {
-        let r = rects::rect_at(nums, i);
-        rects[i] = r;
+    for i in 0..rects.count {
+        run[i] = rects.at(i);
     }
 }
 
-// The first of `count` rects from `from` on that ends below a row, or `count`.
-fn live(nums: &[u32], count: usize, from: usize, row: usize) -> usize
-    requires { (from ≤ count) × (count * 4 ≤ length nums.now) × Above nums.now from row }
-    ensures { (from ≤ result) × (result ≤ count) × Above nums.now result row }
+// The first rect from `from` on that ends below a row, or how many there are.
+fn live(rects: Rects, from: usize, row: usize) -> usize
+    requires { (from ≤ rects.count) × Above rects.numbers.now from row }
+    ensures { (from ≤ result) × (result ≤ rects.entry.count) × Above rects.entry.numbers.now result row }
 {
-    for at in from..count {
-        let r = rects::rect_at(nums, at);
+    for at in from..rects.count {
+        let r = rects.at(at);
         if row < r.bottom {
             return at;
         }
     }
-    count
+    rects.count
 }
 
 // The number of the first of `count` rects that contains a frame, or `count`. None before `from` does.
@@ -109,26 +109,26 @@ fn put_number(found: &mut [u32], at: usize, k: usize, size: usize) -> usize
     at + 1
 }
 
-// At each corner of GRID the number of the region of the frame that starts there, or `count`.
-pub fn number_frames(layer: Layer, nums: &[u32], count: usize, found: &mut [u32])
-    requires { (count ≤ region_count) × (count * 4 ≤ length nums.now) × (layer.height * layer.width ≤ length found.old) }
-    ensures { Numbered (frame_of grid (picture_of layer.entry) layer.entry.width layer.entry.height) (rects_of nums.now count) (picture_of layer.entry) layer.entry.width (layer.entry.height * layer.entry.width) found.new }
+// At each corner of GRID the number of the region of the frame that starts there, or how many regions there are.
+pub fn number_frames(layer: Layer, rects: Rects, found: &mut [u32])
+    requires { (rects.count ≤ region_count) × (layer.height * layer.width ≤ length found.old) }
+    ensures { Numbered (frame_of grid (picture_of layer.entry) layer.entry.width layer.entry.height) (rects_in rects.entry) (picture_of layer.entry) layer.entry.width (layer.entry.height * layer.entry.width) found.new }
 {
-    let mut rects = [Rect {
+    let mut run = [Rect {
         left: 0,
         top: 0,
         right: 0,
         bottom: 0,
     }; REGIONS];
-    fill(&mut rects, nums, count);
+    fill(&mut run, rects);
     let size = layer.height * layer.width;
     let mut i: usize = 0;
     let mut from: usize = 0;
     // No `for`: each turn goes on behind the next corner.
     while i < size {
         let s = seek(layer, i);
-        from = live(nums, count, from, s.under);
-        let k = number_in(&rects, from, count, s.frame);
+        from = live(rects, from, s.under);
+        let k = number_in(&run, from, rects.count, s.frame);
         i = put_number(found, s.at, k, size);
     }
 }

@@ -1,14 +1,15 @@
 // Cells that are added to a row of a plane.
 #![tactic(auto)]
 
-ghost use Rattle.std.specs.Prelude.{true, ◌≡◌, [], ◌∷◌, ◌++◌, ◌+◌, ◌≤◌, ◌<◌, length};
+ghost use Rattle.std.specs.Prelude.{true, ◌≡◌, [], ◌∷◌, ◌++◌, ◌+◌, ◌≤◌, ◌<◌};
 ghost use Rattle.lists.specs.Choose.{choose};
 ghost use Rattle.model.specs.Cells.{Small};
-ghost use Rattle.model.specs.Limits.{plane_rows, plane_cells, plane_size, region_count};
-ghost use Rattle.cells.specs.Plane.{cells_in, KeptBefore};
+ghost use Rattle.model.specs.Limits.{plane_rows, plane_cells, region_count};
+ghost use Rattle.cells.specs.Written.{next_row, Kept};
 ghost use Rattle.plane_cells.specs.Row.{is_at, with_cell, fitting};
 ghost use Rattle.plane_cells.specs.Made.{row_of, row_made, RowFit, RowFits};
 
+use cells::plane_writer::PlaneWriter;
 use model::limits::{PLANE_CELLS, PLANE_ROWS};
 use model::{Cell, Refusal};
 use outline::Outline;
@@ -33,14 +34,14 @@ pub struct RowSofar {
 
 // `t` is a fact of the drawing, that a line stands there; tested here, so that the caller has one path.
 // A double line behind the first i cells of a row, where there is one.
-fn add_line_if(plane: &mut [u32], row: usize, i: usize, t: bool, c: Cell) -> usize
-    requires { (row < plane_rows) × (t ≡ true → i < plane_cells) × (plane_size ≤ length plane.old) × Small c }
+fn add_line_if(plane: &mut PlaneWriter, i: usize, t: bool, c: Cell) -> usize
+    requires { (plane.old.rows < plane_rows) × (t ≡ true → i < plane_cells) × Small c }
     ensures ends { result ≡ i + choose t 1 0 }
-    ensures cells { cells_in plane.new row result ≡ cells_in plane.old row i ++ choose t (c ∷ []) [] }
-    ensures before { KeptBefore plane.old plane.new row }
+    ensures cells { next_row plane.new result ≡ next_row plane.old i ++ choose t (c ∷ []) [] }
+    ensures kept { Kept plane.old plane.new }
 {
     if t {
-        cells::put_cell(plane, row, i, c);
+        plane.put_cell(i, c);
         return i + 1;
     }
     i
@@ -64,16 +65,15 @@ pub fn add_cells(
     o: Outline,
     x: usize,
     region: usize,
-    plane: &mut [u32],
-    row: usize,
+    plane: &mut PlaneWriter,
     s: RowSofar,
 ) -> Result<RowSofar, Refusal>
-    requires { (region < region_count) × RowFit s row × (plane_size ≤ length plane.old) }
-    ensures made { row_made result plane.new row ≡ fitting row (with_cell o x region (row_of s plane.old row)) }
-    ensures fits { RowFits result row }
-    ensures before { KeptBefore plane.old plane.new row }
+    requires { (region < region_count) × RowFit s plane.old.rows }
+    ensures made { row_made result plane.new ≡ fitting plane.old.rows (with_cell o x region (row_of s plane.old)) }
+    ensures fits { RowFits result plane.new.rows }
+    ensures kept { Kept plane.old plane.new }
 {
-    if PLANE_ROWS <= row {
+    if PLANE_ROWS <= plane.rows {
         return Err(Refusal::OverLimit);
     }
     let is_output = x == o.x;
@@ -83,15 +83,9 @@ pub fn add_cells(
     if PLANE_CELLS < from + one_if(is_output) + one_if(is_annotation) + 1 {
         return Err(Refusal::OverLimit);
     }
-    let a = add_line_if(plane, row, from, is_output, Cell::VerticalOutputDoubleLine);
-    let b = add_line_if(
-        plane,
-        row,
-        a,
-        is_annotation,
-        Cell::VerticalAnnotationDoubleLine,
-    );
-    cells::put_cell(plane, row, b, Cell::Region(region as u32));
+    let a = add_line_if(plane, from, is_output, Cell::VerticalOutputDoubleLine);
+    let b = add_line_if(plane, a, is_annotation, Cell::VerticalAnnotationDoubleLine);
+    plane.put_cell(b, Cell::Region(region as u32));
     let last_output = s.output;
     let last_annotation = s.annotation;
     let output = column_if(is_output, from, last_output);

@@ -1,8 +1,8 @@
 -- A line row goes behind the rows so far.
 use Rattle.std.specs.Prelude.{Ok, Err, Option}
 use mathlib.Core.Path.{◌≡◌, ◌∙◌, fun_ext}
-use mathlib.Core.List.{List, [], ◌∷◌, ◌++◌}
-use Prim.Native.Nat.{ℕ, ◌+◌, ◌≤◌, ◌<◌}
+use mathlib.Core.List.{[], ◌∷◌, ◌++◌}
+use Prim.Native.Nat.{ℕ, ◌≤◌, ◌<◌}
 use borrow.Author.Tests.{lt-leb, le-leb}
 use Rattle.lists.specs.Run.{build}
 use Rattle.lists.proofs.Tests.{by_flag}
@@ -10,23 +10,24 @@ use Rattle.model.specs.Limits.{plane_rows}
 use Rattle.model.specs.declared.Cell.{Cell}
 use Rattle.model.specs.declared.Cell.TheVariants.{HorizontalAnnotationsDoubleLine, VerticalDoubleCrossing}
 use Rattle.model.specs.declared.Refusal.TheVariants.{OverLimit}
-use Rattle.cells.specs.Plane.{cells_in, plane_in, KeptBefore}
-use Rattle.cells.proofs.PlaneLaws.{length-plane, kept-plane}
+use Rattle.cells.specs.Written.{written, next_row, Kept, Ended}
+use Rattle.cells.specs.declared.plane_writer.PlaneWriter.{PlaneWriter}
+use Rattle.cells.proofs.PlaneLaws.{length-plane}
+use Rattle.cells.proofs.WriterLaws.{kept-written}
 use Rattle.plane_cells.specs.Row.{is_at}
-use Rattle.plane_rows.specs.Made.{rows_of, Fits, line_cell}
+use Rattle.plane_rows.specs.Made.{rows_of, line_cell}
 use Rattle.plane_rows.specs.Rows.{annotation_line, add_line}
-use Rattle.plane_rows.specs.declared.PlaneSofar.{PlaneSofar}
+use Rattle.plane_rows.specs.declared.sofar.PlaneSofar.{PlaneSofar}
 
-module _ (line : ℕ → Cell) (s : PlaneSofar) (d : List ℕ) where
-  pub line_over : plane_rows ≤ s.rows → Err OverLimit ≡ add_line line (rows_of s d)
-  line_over h = rw (length-plane d s.rows, le-leb plane_rows s.rows h)
+module _ (line : ℕ → Cell) (s : PlaneSofar) (w : PlaneWriter) where
+  pub line_over : plane_rows ≤ w.rows → Err OverLimit ≡ add_line line (rows_of s w)
+  line_over h = rw (length-plane w.cells.now w.rows, le-leb plane_rows w.rows h)
 
-  pub line_added : Fits s d → s.rows < plane_rows → (d1 d2 : List ℕ) → KeptBefore d d1 s.rows → cells_in d1 s.rows s.width ≡ build s.width line
-      → plane_in d2 (s.rows + 1) ≡ plane_in d1 s.rows ++ (cells_in d1 s.rows s.width ∷ [])
-      → Ok (rows_of (record { rows = s.rows + 1; width = s.width; output = s.output; annotation = s.annotation }) d2) ≡ add_line line (rows_of s d)
-  line_added f h d1 d2 k c e =
-      let z : plane_in d2 (s.rows + 1) ≡ plane_in d s.rows ++ (build s.width line ∷ []) = e ∙ rw (kept-plane d d1 s.rows k f.plane.rows f.plane.cells, c) in
-      rw (length-plane d s.rows, lt-leb plane_rows s.rows h, z)
+  pub line_added : w.rows < plane_rows → (a b : PlaneWriter) → Kept w a → next_row a s.width ≡ build s.width line → Ended a b s.width
+      → Ok (rows_of s b) ≡ add_line line (rows_of s w)
+  line_added h a b k c e =
+      let z : written b ≡ written w ++ (build s.width line ∷ []) = e.plane ∙ rw (kept-written k, c) in
+      rw (length-plane w.cells.now w.rows, lt-leb plane_rows w.rows h, z)
 
 -- below the annotation crossing a line row tells of the outputs alone
 pub below_line : (output annotation : Option ℕ) → line_cell VerticalDoubleCrossing HorizontalAnnotationsDoubleLine HorizontalAnnotationsDoubleLine output annotation ≡ annotation_line output

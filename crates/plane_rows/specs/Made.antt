@@ -1,30 +1,22 @@
--- What the functions that add to a plane answer, with the slice that holds it.
-use Rattle.std.specs.Prelude.{List, ℕ, ◌≤◌, Ok, Err, Option}
+-- What the functions that add to a plane answer, with its writer.
+use Rattle.std.specs.Prelude.{ℕ, Ok, Err, Option}
 use Rattle.lists.specs.Choose.{choose}
-use Rattle.model.specs.Limits.{plane_cells}
 use Rattle.model.specs.Refusals.{Reading}
 use Rattle.model.specs.declared.Cell.{Cell}
-use Rattle.cells.specs.Plane.{plane_in, PlaneFits}
+use Rattle.cells.specs.Written.{written}
+use Rattle.cells.specs.declared.plane_writer.PlaneWriter.{PlaneWriter}
 use Rattle.plane_cells.specs.Row.{is_at}
 use Rattle.plane_rows.specs.Rows.{Rows}
-use Rattle.plane_rows.specs.declared.PlaneSofar.{PlaneSofar}
+use Rattle.plane_rows.specs.declared.sofar.PlaneSofar.{PlaneSofar}
 
-abbrev pub rows_of : PlaneSofar → List ℕ → Rows
-rows_of s d = record { plane = plane_in d s.rows; width = s.width; output = s.output; annotation = s.annotation }
+-- the rows that are ended, with what is known of them
+abbrev pub rows_of : PlaneSofar → PlaneWriter → Rows
+rows_of s w = record { plane = written w; width = s.width; output = s.output; annotation = s.annotation }
 
--- an answer's rows
-abbrev pub rows_made : Reading PlaneSofar → List ℕ → Reading Rows
-rows_made (Ok s) d = Ok (rows_of s d)
-rows_made (Err r) d = Err r
-
--- the slice holds the plane so far, whose last row has at most 64 cells
-pub record Fits (s : PlaneSofar) (d : List ℕ) : Type 0 where
-  pub plane : PlaneFits d s.rows
-  pub width : s.width ≤ plane_cells
-
-abbrev pub RowsFit : Reading PlaneSofar → List ℕ → Type 0
-RowsFit (Ok s) d = Fits s d
-RowsFit (Err r) d = Unit {0}
+-- an answer's rows, which a line row more leaves as they are known
+abbrev pub line_made : Reading (Unit {0}) → PlaneSofar → PlaneWriter → Reading Rows
+line_made (Ok u) s w = Ok (rows_of s w)
+line_made (Err r) s w = Err r
 
 -- cell i of a line row: the cell at the double line of the outputs, the one at that of the annotations, or any other
 abbrev pub line_cell : Cell → Cell → Cell → Option ℕ → Option ℕ → ℕ → Cell

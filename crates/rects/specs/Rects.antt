@@ -2,6 +2,7 @@
 use Rattle.std.specs.Prelude.{List, ℕ, ◌+◌, ◌*◌, ◌≤◌, ◌<◌, ◌^◌, get_or}
 use Rattle.lists.specs.Run.{run}
 use Rattle.model.specs.declared.Rect.{Rect}
+use Rattle.rects.specs.declared.list.Rects.{Rects}
 
 abbrev pub rect_at : List ℕ → ℕ → Rect
 rect_at d k = record { left = get_or d (k * 4) 0; top = get_or d (k * 4 + 1) 0; right = get_or d (k * 4 + 2) 0; bottom = get_or d (k * 4 + 3) 0 }
@@ -9,6 +10,10 @@ rect_at d k = record { left = get_or d (k * 4) 0; top = get_or d (k * 4 + 1) 0; 
 -- the first n rects
 abbrev pub rects_of : List ℕ → ℕ → List Rect
 rects_of d n = run (rect_at d) 0 n
+
+-- the rects that a slice holds
+abbrev pub rects_in : Rects → List Rect
+rects_in r = rects_of r.numbers.now r.count
 
 -- the numbers of a rect fit the slice's
 pub record Small (r : Rect) : Type 0 where

@@ -11,7 +11,8 @@ use Rattle.lists.specs.Run.{run, build}
 use Rattle.lists.proofs.RunLaws.{length_run}
 use Rattle.model.specs.Limits.{text_bytes}
 use Rattle.model.specs.declared.Rect.{Rect}
-use Rattle.rects.specs.Rects.{rect_at, rects_of}
+use Rattle.rects.specs.Rects.{rect_at, rects_in, rects_of}
+use Rattle.rects.specs.declared.list.Rects.{Rects}
 use Rattle.texts.specs.RegionText.{packed}
 use Rattle.cells.specs.Slices.{texts_of}
 use Rattle.cells.specs.Spans.{offset_at, length_at, text_at, texts_in}
@@ -69,36 +70,39 @@ text-short t k few h =
     omega (arith, size-next t k, size_grows t (suc k) t.count (omega arith), few, length-text t k h)
 
 -- the first k regions are written behind o₀
-pub record Listing (o₀ rects : List ℕ) (t : Texts) (o : List ℕ) (k : ℕ) : Type 0 where
+pub record Listing (o₀ : List ℕ) (rs : Rects) (t : Texts) (o : List ℕ) (k : ℕ) : Type 0 where
   pub along : k ≤ t.count
-  pub written : Written o₀ o (region_lines (rects_of rects k) (texts_in t.bytes.now t.spans.now k)) (85 * k + size t k)
+  pub written : Written o₀ o (region_lines (rects_of rs.numbers.now k) (texts_in t.bytes.now t.spans.now k)) (85 * k + size t k)
 
-pub listing_start : (o rects : List ℕ) (t : Texts) → Listing o rects t o 0
+pub listing_start : (o : List ℕ) (rs : Rects) (t : Texts) → Listing o rs t o 0
 unfolding run region_lines packed
-listing_start o rects t = record { along = omega arith; written = written_nil o }
+listing_start o rs t = record { along = omega arith; written = written_nil o }
 
-module _ {o₀ rects : List ℕ} {t : Texts} {o : List ℕ} {k : ℕ} (q : Listing o₀ rects t o k) (g : Regions rects t) (h : k < t.count) where
-  pub listing_room : {most : ℕ} → length o₀ + 148480 ≤ most → (length o + 85 + length_at t.spans.now k ≤ most) × (k * 4 + 4 ≤ length rects) × (k < t.count)
-  listing_room room = (omega (arith, written_long q.written, room, g.count, text-short t k g.few h), omega (arith, g.four_each), h)
+module _ {o₀ : List ℕ} {rs : Rects} {t : Texts} {o : List ℕ} {k : ℕ} (q : Listing o₀ rs t o k) (g : Regions rs t) (h : k < t.count) where
+  pub listing_room : {most : ℕ} → length o₀ + 148480 ≤ most → (length o + 85 + length_at t.spans.now k ≤ most) × (k < rs.count) × (k < t.count)
+  listing_room room = (omega (arith, written_long q.written, room, g.count, text-short t k g.few h), omega (arith, g.same), h)
 
-  pub listing_more : {e : List ℕ} → Written o e (region_line (rect_at rects k) (text_at t.bytes.now t.spans.now k)) (85 + length_at t.spans.now k)
-      → Listing o₀ rects t e (k + 1)
+  pub listing_more : {e : List ℕ} → Written o e (region_line (rect_at rs.numbers.now k) (text_at t.bytes.now t.spans.now k)) (85 + length_at t.spans.now k)
+      → Listing o₀ rs t e (k + 1)
   listing_more {e} u =
-      let z : region_lines (rects_of rects k) (texts_in t.bytes.now t.spans.now k) ++ region_line (rect_at rects k) (text_at t.bytes.now t.spans.now k) ≡ region_lines (rects_of rects (k + 1)) (texts_in t.bytes.now t.spans.now (k + 1)) =
-      rw (add-one k) (sym (lines_next (rect_at rects) (text_at t.bytes.now t.spans.now) k)) in
+      let z : region_lines (rects_of rs.numbers.now k) (texts_in t.bytes.now t.spans.now k) ++ region_line (rect_at rs.numbers.now k) (text_at t.bytes.now t.spans.now k) ≡ region_lines (rects_of rs.numbers.now (k + 1)) (texts_in t.bytes.now t.spans.now (k + 1)) =
+      rw (add-one k) (sym (lines_next (rect_at rs.numbers.now) (text_at t.bytes.now t.spans.now) k)) in
       let a : size t (k + 1) ≡ size t k + length (text_at t.bytes.now t.spans.now k) = rw (add-one k) (size-next t k) in
       record { along = omega arith; written = written_within (written_as (written_then q.written u) z) (omega (arith, length-text t k h)) }
 
 -- all regions are written
-pub listing_end : {o₀ rects : List ℕ} {t : Texts} {o d : List ℕ} {k : ℕ} → Listing o₀ rects t o k → Regions rects t → t.count ≤ k
-    → Written d o₀ (count_line regions_word t.count) 29 → Written d o (counted_lines (rects_of rects t.count) (texts_of t)) region_bytes
+pub listing_end : {o₀ : List ℕ} {rs : Rects} {t : Texts} {o d : List ℕ} {k : ℕ} → Listing o₀ rs t o k → Regions rs t → t.count ≤ k
+    → Written d o₀ (count_line regions_word t.count) 29 → Written d o (counted_lines (rects_in rs) (texts_of t)) region_bytes
 unfolding counted_lines
-listing_end {o₀} {rects} {t} {o} {d} {k} q g h u =
+listing_end {o₀} {rs} {t} {o} {d} {k} q g h u =
     let b = q.along in
+    let l : List ℕ = rs.numbers.now in
     let z : k ≡ t.count = omega arith in
     let s : size t k ≤ text_bytes = rw z g.few in
-    let x : count_line regions_word t.count ++ region_lines (rects_of rects k) (texts_in t.bytes.now t.spans.now k) ≡ count_line regions_word (length (rects_of rects t.count)) ++ region_lines (rects_of rects t.count) (texts_of t) =
-    rw (z, length_run (rect_at rects) 0 t.count) in
+    let e : rects_of l k ≡ rects_in rs = ap (rects_of l) (z ∙ sym g.same) in
+    let m : length (rects_in rs) ≡ t.count = length_run (rect_at l) 0 rs.count ∙ g.same in
+    let x : count_line regions_word t.count ++ region_lines (rects_of l k) (texts_in t.bytes.now t.spans.now k) ≡ count_line regions_word (length (rects_in rs)) ++ region_lines (rects_in rs) (texts_of t) =
+    rw (e, z, m) in
     written_within (written_as (written_then u q.written) x) (omega (arith, g.count))
 
 -- the line of a name

@@ -1,9 +1,10 @@
 -- The layers and the regions for which there is room.
-use Rattle.std.specs.Prelude.{List, ℕ, ◌*◌, ◌≤◌, ◌≡◌, length}
+use Rattle.std.specs.Prelude.{◌≤◌, ◌≡◌, length}
 use Rattle.model.specs.Limits.{canvas_rows, canvas_columns, region_count, text_bytes}
 use Rattle.model.specs.declared.layer.Layer.{Layer}
 use Rattle.cells.specs.Slices.{texts_of}
 use Rattle.cells.specs.declared.texts.Texts.{Texts}
+use Rattle.rects.specs.declared.list.Rects.{Rects}
 use Rattle.texts.specs.RegionText.{packed}
 
 -- a layer no larger than the widest and the highest canvas
@@ -20,8 +21,8 @@ pub record SameSize (l m : Layer) : Type 0 where
 abbrev pub Few : Texts → Type 0
 Few t = length (packed (texts_of t)) ≤ text_bytes
 
--- regions as a sheet may have them: their rects, four numbers each, and their texts
-pub record Regions (rects : List ℕ) (t : Texts) : Type 0 where
+-- regions as a sheet may have them: as many rects as texts
+pub record Regions (rs : Rects) (t : Texts) : Type 0 where
   pub count : t.count ≤ region_count
-  pub four_each : t.count * 4 ≤ length rects
+  pub same : rs.count ≡ t.count
   pub few : Few t

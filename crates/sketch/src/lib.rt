@@ -5,7 +5,7 @@ ghost use Rattle.std.specs.Prelude.{[], ◌∷◌, ◌++◌, ◌+◌, ◌*◌, �
 ghost use Rattle.arrayvec.specs.ArrayVec.{array_vec_len};
 ghost use Rattle.model.specs.Layers.{picture_of};
 ghost use Rattle.model.specs.Limits.{canvas_columns};
-ghost use Rattle.rects.specs.Rects.{rect_at, rects_of};
+ghost use Rattle.rects.specs.Rects.{rect_at, rects_in};
 ghost use Rattle.cells.specs.Spans.{length_at, text_at};
 ghost use Rattle.cells.specs.Slices.{texts_of};
 ghost use Rattle.utf8.specs.Utf8.{encode};
@@ -17,6 +17,7 @@ ghost use Rattle.sketch.specs.Printable.{OnCanvas, SameSize, Few, Regions};
 use arrayvec::ArrayVec;
 use cells::texts::Texts;
 use model::layer::Layer;
+use rects::list::Rects;
 
 // A character in UTF-8.
 fn put_code<const N: usize>(out: &mut ArrayVec<u8, N>, c: u32)
@@ -77,11 +78,11 @@ fn put_spaced<const N: usize>(out: &mut ArrayVec<u8, N>, n: usize)
 }
 
 // Rect k, with a blank behind each number.
-fn put_rect<const N: usize>(out: &mut ArrayVec<u8, N>, rects: &[u32], k: usize)
-    requires { (array_vec_len out.old + 84 ≤ N) × (k * 4 + 4 ≤ length rects.now) }
-    ensures { Written out.old.items out.new.items (rect_words (rect_at rects.now k)) 84 }
+fn put_rect<const N: usize>(out: &mut ArrayVec<u8, N>, rects: Rects, k: usize)
+    requires { (array_vec_len out.old + 84 ≤ N) × (k < rects.count) }
+    ensures { Written out.old.items out.new.items (rect_words (rect_at rects.entry.numbers.now k)) 84 }
 {
-    let r = rects::rect_at(rects, k);
+    let r = rects.at(k);
     put_spaced(out, r.left);
     put_spaced(out, r.top);
     put_spaced(out, r.right);
@@ -98,18 +99,18 @@ fn put_text<const N: usize>(out: &mut ArrayVec<u8, N>, texts: Texts, k: usize)
 }
 
 // Region k: its rect and its text.
-fn put_region<const N: usize>(out: &mut ArrayVec<u8, N>, rects: &[u32], texts: Texts, k: usize)
-    requires { (array_vec_len out.old + 85 + length_at texts.spans.now k ≤ N) × (k * 4 + 4 ≤ length rects.now) × (k < texts.count) }
-    ensures { Written out.old.items out.new.items (region_line (rect_at rects.now k) (text_at texts.entry.bytes.now texts.entry.spans.now k)) (85 + length_at texts.entry.spans.now k) }
+fn put_region<const N: usize>(out: &mut ArrayVec<u8, N>, rects: Rects, texts: Texts, k: usize)
+    requires { (array_vec_len out.old + 85 + length_at texts.spans.now k ≤ N) × (k < rects.count) × (k < texts.count) }
+    ensures { Written out.old.items out.new.items (region_line (rect_at rects.entry.numbers.now k) (text_at texts.entry.bytes.now texts.entry.spans.now k)) (85 + length_at texts.entry.spans.now k) }
 {
     put_rect(out, rects, k);
     put_text(out, texts, k);
 }
 
 // The regions behind their count.
-pub fn put_regions<const N: usize>(out: &mut ArrayVec<u8, N>, rects: &[u32], texts: Texts)
-    requires { (array_vec_len out.old + region_bytes ≤ N) × Regions rects.now texts }
-    ensures { Written out.old.items out.new.items (counted_lines (rects_of rects.now texts.entry.count) (texts_of texts.entry)) region_bytes }
+pub fn put_regions<const N: usize>(out: &mut ArrayVec<u8, N>, rects: Rects, texts: Texts)
+    requires { (array_vec_len out.old + region_bytes ≤ N) × Regions rects texts }
+    ensures { Written out.old.items out.new.items (counted_lines (rects_in rects.entry) (texts_of texts.entry)) region_bytes }
 {
     print::put_count(out, b"regions ", texts.count);
     for k in 0..texts.count {

@@ -2,7 +2,7 @@
 use Rattle.std.specs.Prelude.{Ok, Err}
 use mathlib.Core.Path.{◌≡◌, sym, ap, ◌∙◌}
 use mathlib.Core.List.{List, [], ◌∷◌, ◌++◌}
-use Prim.Native.Nat.{ℕ, ◌+◌}
+use Prim.Native.Nat.{ℕ}
 use lib.ListN.{length}
 use borrow.Author.Tests.{eq-eqb, ne_eqb}
 use Rattle.lists.specs.Answer.{◌>>=◌}
@@ -10,45 +10,43 @@ use Rattle.lists.specs.Picture.{Picture}
 use Rattle.model.specs.Refusals.{Reading}
 use Rattle.model.specs.declared.Rect.{Rect}
 use Rattle.model.specs.declared.Refusal.{Refusal}
-use Rattle.cells.specs.Plane.{cells_in, plane_in, KeptBefore}
-use Rattle.cells.proofs.PlaneLaws.{length-cells, length-plane, kept-plane}
+use Rattle.cells.specs.Written.{written, next_row, Kept, Ended}
+use Rattle.cells.specs.declared.plane_writer.PlaneWriter.{PlaneWriter}
+use Rattle.cells.proofs.PlaneLaws.{length-cells, length-plane}
+use Rattle.cells.proofs.WriterLaws.{kept-written}
 use Rattle.outline.specs.declared.Outline.{Outline}
 use Rattle.regions.specs.Regions.{Finder}
 use Rattle.plane_cells.specs.Made.{row_made}
 use Rattle.plane_cells.specs.Row.{Row}
 use Rattle.plane_cells.specs.declared.RowSofar.{RowSofar}
-use Rattle.plane_rows.specs.Made.{rows_of, Fits}
+use Rattle.plane_rows.specs.Made.{rows_of}
 use Rattle.plane_rows.specs.Rows.{Rows}
-use Rattle.plane_rows.specs.declared.PlaneSofar.{PlaneSofar}
+use Rattle.plane_rows.specs.declared.sofar.PlaneSofar.{PlaneSofar}
 use Rattle.step.specs.PlaneStep.{row_by, add_row, add_frames}
 
--- the row of the frames, as the slice d1 has it
-module _ (o : Outline) (find : Finder) (regions : List Rect) (p : Picture) (w y : ℕ) (s : PlaneSofar) (d d1 : List ℕ) (r : Reading RowSofar)
-    (e : row_made r d1 s.rows ≡ row_by o find regions p w s.rows y (record { cells = []; output = s.output; annotation = s.annotation })) where
+-- the row of the frames, behind the rows so far
+module _ (o : Outline) (find : Finder) (regions : List Rect) (p : Picture) (w y : ℕ) (s : PlaneSofar) (d d1 : PlaneWriter) (r : Reading RowSofar)
+    (e : row_made r d1 ≡ row_by o find regions p w d.rows y (record { cells = []; output = s.output; annotation = s.annotation })) where
   abbrev whole : Reading Rows
   whole = add_frames o find regions p w y (rows_of s d)
 
-  added : {m : (Reading RowSofar)} → r ≡ m → whole ≡ ◌>>=◌ (row_made m d1 s.rows) (add_row (rows_of s d))
+  added : {m : (Reading RowSofar)} → r ≡ m → whole ≡ ◌>>=◌ (row_made m d1) (add_row (rows_of s d))
   added {m} z =
-      rw (length-plane d s.rows)
-      (ap (λ (a : Reading Row). ◌>>=◌ a (add_row (rows_of s d))) (sym e ∙ ap (λ (a : Reading RowSofar). row_made a d1 s.rows) z))
+      rw (length-plane d.cells.now d.rows)
+      (ap (λ (a : Reading Row). ◌>>=◌ a (add_row (rows_of s d))) (sym e ∙ ap (λ (a : Reading RowSofar). row_made a d1) z))
 
   pub frames_out : (f : Refusal) → r ≡ Err f → Err f ≡ whole
   frames_out f z = sym (added z)
 
-  module _ (t : RowSofar) (z : r ≡ Ok t) where
-    count : length (cells_in d1 s.rows t.cells) ≡ t.cells
-    count = length-cells d1 s.rows t.cells
+  module _ (t : RowSofar) (z : r ≡ Ok t) (k : Kept d d1) where
+    count : length (next_row d1 t.cells) ≡ t.cells
+    count = length-cells d1.cells.now d1.rows t.cells
 
-    module _ (f : Fits s d) (k : KeptBefore d d1 s.rows) where
-      same : plane_in d1 s.rows ≡ plane_in d s.rows
-      same = kept-plane d d1 s.rows k f.plane.rows f.plane.cells
+    pub no_frames : t.cells ≡ 0 → Ok (rows_of s d1) ≡ whole
+    no_frames q = sym (added z ∙ rw (eq-eqb (length (next_row d1 t.cells)) 0 (count ∙ q), kept-written k))
 
-      pub no_frames : t.cells ≡ 0 → Ok (rows_of s d1) ≡ whole
-      no_frames q = sym (added z ∙ rw (eq-eqb (length (cells_in d1 s.rows t.cells)) 0 (count ∙ q), same))
-
-      pub frames_added : (t.cells ≡ 0 → ⊥) → (d2 : List ℕ) → plane_in d2 (s.rows + 1) ≡ plane_in d1 s.rows ++ (cells_in d1 s.rows t.cells ∷ [])
-          → Ok (rows_of (record { rows = s.rows + 1; width = t.cells; output = t.output; annotation = t.annotation }) d2) ≡ whole
-      frames_added n d2 g =
-          let v : plane_in d2 (s.rows + 1) ≡ plane_in d s.rows ++ (cells_in d1 s.rows t.cells ∷ []) = g ∙ rw same in
-          sym (added z ∙ rw (ne_eqb (length (cells_in d1 s.rows t.cells)) 0 (λ q. n (sym count ∙ q)), count, v))
+    pub frames_added : (t.cells ≡ 0 → ⊥) → (d2 : PlaneWriter) → Ended d1 d2 t.cells
+        → ◌≡◌ {A = Reading Rows} (Ok (record { plane = written d2; width = t.cells; output = t.output; annotation = t.annotation })) whole
+    frames_added n d2 g =
+        let v : written d2 ≡ written d ++ (next_row d1 t.cells ∷ []) = g.plane ∙ rw (kept-written k) in
+        sym (added z ∙ rw (ne_eqb (length (next_row d1 t.cells)) 0 (λ q. n (sym count ∙ q)), count, v))

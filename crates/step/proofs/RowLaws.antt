@@ -17,8 +17,10 @@ use Rattle.lists.proofs.PictureLaws.{within_in, place-fits}
 use Rattle.model.specs.Refusals.{Reading}
 use Rattle.model.specs.declared.Rect.{Rect}
 use Rattle.model.specs.declared.Refusal.{Refusal}
-use Rattle.cells.specs.Plane.{cells_in, KeptBefore}
-use Rattle.cells.proofs.PlaneLaws.{kept_refl, kept_then}
+use Rattle.cells.specs.Plane.{cells_in}
+use Rattle.cells.specs.Written.{Kept}
+use Rattle.cells.specs.declared.plane_writer.PlaneWriter.{PlaneWriter}
+use Rattle.cells.proofs.WriterLaws.{same_kept, then_kept}
 use Rattle.outline.specs.declared.Outline.{Outline}
 use Rattle.regions.specs.Corners.{corner_in, NextCorner}
 use Rattle.regions.specs.Regions.{Finder, is_corner}
@@ -85,14 +87,13 @@ corner-canvas l w h x y k v q =
     }
 
 -- the frames before column x of row y are in the row s, and the next starts there
-pub record Filling (o : Outline) (w h count : ℕ) (l found : List ℕ) (row y : ℕ) (d : List ℕ) (s₀ : RowSofar) (out : List ℕ) (x : ℕ) (s : RowSofar) : Type 0 where
+pub record Filling (o : Outline) (w h count : ℕ) (l found : List ℕ) (y : ℕ) (d : PlaneWriter) (s₀ : RowSofar) (out : PlaneWriter) (x : ℕ) (s : RowSofar) : Type 0 where
   pub starts : x < w → is_corner (canvas w h l x y) ≡ true
-  pub long : length out ≡ length d
-  pub kept : KeptBefore d out row
-  pub fits : RowFit s row
+  pub kept : Kept d out
+  pub fits : RowFit s out.rows
   pub same : Over w h count l found (λ rs.
-      each (add_cell o (frame_of grid (canvas w h l) w h) rs row y) (those (λ i. is_corner (canvas w h l i y)) x (w - x)) (row_of s out row)
-      ≡ row_by o (frame_of grid (canvas w h l) w h) rs (canvas w h l) w row y (record { cells = []; output = s₀.output; annotation = s₀.annotation }))
+      each (add_cell o (frame_of grid (canvas w h l) w h) rs d.rows y) (those (λ i. is_corner (canvas w h l i y)) x (w - x)) (row_of s out)
+      ≡ row_by o (frame_of grid (canvas w h l) w h) rs (canvas w h l) w d.rows y (record { cells = []; output = s₀.output; annotation = s₀.annotation }))
 
 -- from column i on there is no frame before that of the next corner
 skipped : (o : Outline) (w h : ℕ) (l : List ℕ) (row y i k : ℕ) (s : Row) → NextCorner (λ j. is_corner (canvas w h l j y)) w i k → (rs : List Rect)
@@ -101,54 +102,55 @@ skipped : (o : Outline) (w h : ℕ) (l : List ℕ) (row y i k : ℕ) (s : Row) �
 skipped o w h l row y i k s q rs =
     ap (λ (xs : List ℕ). each (add_cell o (frame_of grid (canvas w h l) w h) rs row y) xs s) (sym (those-from (λ j. is_corner (canvas w h l j y)) w i k q.from q.to q.clear))
 
-pub filling_start : (o : Outline) (w h count : ℕ) (l found : List ℕ) (row y : ℕ) (d : List ℕ) (output annotation : Option ℕ) (x : ℕ) → y < h → NextCorner (λ i. is_corner (pic w l i y)) w 0 x
-    → Filling o w h count l found row y d (record { cells = 0; output = output; annotation = annotation }) d x (record { cells = 0; output = output; annotation = annotation })
+pub filling_start : (o : Outline) (w h count : ℕ) (l found : List ℕ) (y : ℕ) (d : PlaneWriter) (output annotation : Option ℕ) (x : ℕ) → y < h → NextCorner (λ i. is_corner (pic w l i y)) w 0 x
+    → Filling o w h count l found y d (record { cells = 0; output = output; annotation = annotation }) d x (record { cells = 0; output = output; annotation = annotation })
 unfolding cells_in run
-filling_start o w h count l found row y d output annotation x v q =
+filling_start o w h count l found y d output annotation x v q =
     let c = corner-canvas l w h 0 y x v q in
     record {
       starts = c.found;
-      long = refl;
-      kept = kept_refl d row;
+      kept = same_kept d;
       fits = record { few = omega arith; low = λ z. absurd (omega arith) };
-      same = λ rs n m. skipped o w h l row y 0 x (row_of (record { cells = 0; output = output; annotation = annotation }) d row) c rs ∙ rw (sub-zero w);
+      same = λ rs n m. skipped o w h l d.rows y 0 x (row_of (record { cells = 0; output = output; annotation = annotation }) d) c rs ∙ rw (sub-zero w);
     }
 
-module _ {o : Outline} {w h count : ℕ} {l found : List ℕ} {row y : ℕ} {d : List ℕ} {s₀ : RowSofar} {out : List ℕ} {x : ℕ} {s : RowSofar} (q : Filling o w h count l found row y d s₀ out x s) where
+module _ {o : Outline} {w h count : ℕ} {l found : List ℕ} {y : ℕ} {d : PlaneWriter} {s₀ : RowSofar} {out : PlaneWriter} {x : ℕ} {s : RowSofar} (q : Filling o w h count l found y d s₀ out x s) where
   abbrev p : Picture
   p = canvas w h l
 
   abbrev add : List Rect → ℕ → Row → Reading Row
-  add rs = add_cell o (frame_of grid p w h) rs row y
+  add rs = add_cell o (frame_of grid p w h) rs d.rows y
 
   abbrev corner : ℕ → Bool
   corner i = is_corner (p i y)
 
   abbrev whole : List Rect → Reading Row
-  whole rs = row_by o (frame_of grid p w h) rs p w row y (record { cells = []; output = s₀.output; annotation = s₀.annotation })
+  whole rs = row_by o (frame_of grid p w h) rs p w d.rows y (record { cells = []; output = s₀.output; annotation = s₀.annotation })
 
-  module _ (g : x < w) (r : Reading RowSofar) (b : List ℕ) (e : Over w h count l found (λ rs. row_made r b row ≡ add rs x (row_of s out row))) (k : KeptBefore out b row) where
-    added : {m : (Reading RowSofar)} → r ≡ m → Over w h count l found (λ rs. choose (corner x) (add rs x (row_of s out row)) (Ok (row_of s out row)) ≡ row_made m b row)
-    added z rs n m = rw (q.starts g) (sym (e rs n m) ∙ ap (λ (a : Reading RowSofar). row_made a b row) z)
+  module _ (g : x < w) (r : Reading RowSofar) (b : PlaneWriter)
+      (e : Over w h count l found (λ rs. row_made r b ≡ add_cell o (frame_of grid p w h) rs out.rows y x (row_of s out))) (k : Kept out b) where
+    added : {m : (Reading RowSofar)} → r ≡ m → Over w h count l found (λ rs. choose (corner x) (add rs x (row_of s out)) (Ok (row_of s out)) ≡ row_made m b)
+    added z rs n m =
+        let i : row_made r b ≡ add rs x (row_of s out) = e rs n m ∙ ap (λ (j : ℕ). add_cell o (frame_of grid p w h) rs j y x (row_of s out)) q.kept.rows in
+        rw (q.starts g) (sym i ∙ ap (λ (a : Reading RowSofar). row_made a b) z)
 
-    pub filling_more : RowFits r row → length b ≡ length out → (t : RowSofar) → r ≡ Ok t → (i : ℕ) → y < h → NextCorner (λ j. is_corner (pic w l j y)) w (x + 1) i
-        → Filling o w h count l found row y d s₀ b i t
-    filling_more f len t z i v u =
+    pub filling_more : RowFits r b.rows → (t : RowSofar) → r ≡ Ok t → (i : ℕ) → y < h → NextCorner (λ j. is_corner (pic w l j y)) w (x + 1) i
+        → Filling o w h count l found y d s₀ b i t
+    filling_more f t z i v u =
         let c = corner-canvas l w h (x + 1) y i v u in
         record {
           starts = c.found;
-          long = len ∙ q.long;
-          kept = kept_then d out b row q.kept k;
-          fits = subst (λ (m : Reading RowSofar). RowFits m row) z f;
+          kept = then_kept q.kept k;
+          fits = subst (λ (m : Reading RowSofar). RowFits m b.rows) z f;
           same = λ rs n m.
-              skipped o w h l row y (x + 1) i (row_of t b row) c rs ∙ sym (turn_on (add rs) corner x w (row_of s out row) (row_of t b row) g (added z rs n m)) ∙ q.same rs n m;
+              skipped o w h l d.rows y (x + 1) i (row_of t b) c rs ∙ sym (turn_on (add rs) corner x w (row_of s out) (row_of t b) g (added z rs n m)) ∙ q.same rs n m;
         }
 
-    pub filling_out : (f : Refusal) → r ≡ Err f → Over w h count l found (λ rs. Err f ≡ whole rs) × KeptBefore d b row
+    pub filling_out : (f : Refusal) → r ≡ Err f → Over w h count l found (λ rs. Err f ≡ whole rs) × Kept d b
     filling_out f z = (
-      λ rs n m. sym (turn_out (add rs) corner x w (row_of s out row) f g (added z rs n m)) ∙ q.same rs n m,
-      kept_then d out b row q.kept k,
+      λ rs n m. sym (turn_out (add rs) corner x w (row_of s out) f g (added z rs n m)) ∙ q.same rs n m,
+      then_kept q.kept k,
     )
 
-  pub filling_end : w ≤ x → Over w h count l found (λ rs. Ok (row_of s out row) ≡ whole rs)
-  filling_end g rs n m = sym (turn_end (add rs) corner x w (row_of s out row) g) ∙ q.same rs n m
+  pub filling_end : w ≤ x → Over w h count l found (λ rs. Ok (row_of s out) ≡ whole rs)
+  filling_end g rs n m = sym (turn_end (add rs) corner x w (row_of s out) g) ∙ q.same rs n m

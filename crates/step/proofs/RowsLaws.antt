@@ -1,108 +1,109 @@
 -- A row of GRID is added to the plane, and the rows of GRID one after the other.
 use Rattle.std.specs.Prelude.{Ok, Err, None}
-use mathlib.Core.Path.{◌≡◌, refl, sym, ap, ◌∙◌, subst}
+use mathlib.Core.Path.{◌≡◌, refl, sym, ap, ◌∙◌}
 use mathlib.Core.Bool.{Bool, true}
 use mathlib.Core.List.{List}
 use Prim.Native.Nat.{ℕ, ◌+◌, ◌-◌, ◌≤◌, ◌<◌}
 use native.Mathlib.Nat.{sub-zero}
 use native.Mathlib.Omega.{arith}
 use lib.Dec.{eqb}
-use lib.ListN.{length}
 use Rattle.lists.specs.Answer.{◌>>=◌, each, those}
 use Rattle.lists.specs.Choose.{choose}
 use Rattle.lists.specs.Picture.{Picture, canvas}
 use Rattle.lists.specs.Run.{run}
 use Rattle.lists.proofs.AnswerLaws.{turn_on, turn_out, turn_end}
-use Rattle.model.specs.Limits.{plane_size}
+use Rattle.model.specs.Limits.{plane_cells}
 use Rattle.model.specs.Refusals.{Reading}
 use Rattle.model.specs.declared.Rect.{Rect}
 use Rattle.model.specs.declared.Cell.TheVariants.{HorizontalOutputDoubleLine, HorizontalAnnotationsDoubleLine, MainDoubleCrossing, HorizontalDoubleCrossing, VerticalDoubleCrossing}
 use Rattle.model.specs.declared.Refusal.{Refusal}
 use Rattle.cells.specs.Plane.{plane_in}
+use Rattle.cells.specs.Written.{written, SameSlice}
+use Rattle.cells.specs.declared.plane_writer.PlaneWriter.{PlaneWriter}
 use Rattle.outline.specs.declared.Outline.{Outline}
 use Rattle.regions.specs.Regions.{Finder}
 use Rattle.walks.specs.Frame.{frame_of}
 use Rattle.walks.specs.Kinds.{grid}
 use Rattle.plane_cells.specs.Row.{is_at}
-use Rattle.plane_rows.specs.Made.{rows_of, rows_made, Fits, RowsFit, line_cell}
+use Rattle.plane_rows.specs.Made.{rows_of, line_made, line_cell}
 use Rattle.plane_rows.proofs.LineLaws.{below_line}
 use Rattle.plane_rows.specs.Rows.{Rows, annotation_line, add_line}
-use Rattle.plane_rows.specs.declared.PlaneSofar.{PlaneSofar}
-use Rattle.step.specs.Made.{Over}
+use Rattle.plane_rows.specs.declared.sofar.PlaneSofar.{PlaneSofar}
+use Rattle.step.specs.Made.{rows_made, Over}
 use Rattle.step.specs.PlaneStep.{add_frames, add_grid_row, rows_by, plane_by, plane_of}
 
-pub rows_fit : {r : (Reading PlaneSofar)} {t : PlaneSofar} {d : List ℕ} → r ≡ Ok t → RowsFit r d → Fits t d
-rows_fit {r} {t} {d} z f = subst (λ (m : Reading PlaneSofar). RowsFit m d) z f
-
 -- row y of GRID: the line row of the main crossing answered r1, that of the annotation crossing r2
-module _ (o : Outline) (find : Finder) (regions : List Rect) (p : Picture) (w y : ℕ) (s : PlaneSofar) (d : List ℕ) where
+module _ (o : Outline) (find : Finder) (regions : List Rect) (p : Picture) (w y : ℕ) (s : PlaneSofar) (d : PlaneWriter) where
   abbrev whole : Reading Rows
   whole = add_grid_row o find regions p w y (rows_of s d)
 
   abbrev below : Rows → Reading Rows
   below a = ◌>>=◌ (choose (is_at o.below y) (add_line (annotation_line a.output) a) (Ok a)) (add_frames o find regions p w y)
 
-  module _ (r1 : Reading PlaneSofar) (d1 : List ℕ) (e1 : rows_made r1 d1 ≡ choose (eqb y o.y) (add_line (line_cell MainDoubleCrossing HorizontalDoubleCrossing HorizontalOutputDoubleLine s.output s.annotation) (rows_of s d)) (Ok (rows_of s d))) where
-    first : {m : (Reading PlaneSofar)} → r1 ≡ m → whole ≡ ◌>>=◌ (rows_made m d1) below
-    first z = ap (λ (a : Reading Rows). ◌>>=◌ a below) (sym e1 ∙ ap (λ (m : Reading PlaneSofar). rows_made m d1) z)
+  module _ (r1 : Reading (Unit {0})) (d1 : PlaneWriter) (e1 : line_made r1 s d1 ≡ choose (eqb y o.y) (add_line (line_cell MainDoubleCrossing HorizontalDoubleCrossing HorizontalOutputDoubleLine s.output s.annotation) (rows_of s d)) (Ok (rows_of s d))) where
+    first : {m : (Reading (Unit {0}))} → r1 ≡ m → whole ≡ ◌>>=◌ (line_made m s d1) below
+    first z = ap (λ (a : Reading Rows). ◌>>=◌ a below) (sym e1 ∙ ap (λ (m : Reading (Unit {0})). line_made m s d1) z)
 
     pub main_out : (f : Refusal) → r1 ≡ Err f → Err f ≡ whole
     main_out f z = sym (first z)
 
-    module _ (a : PlaneSofar) (z1 : r1 ≡ Ok a) (u : Bool) (q : u ≡ is_at o.below y) (r2 : Reading PlaneSofar) (d2 : List ℕ)
-        (e2 : rows_made r2 d2 ≡ choose u (add_line (line_cell VerticalDoubleCrossing HorizontalAnnotationsDoubleLine HorizontalAnnotationsDoubleLine a.output a.annotation) (rows_of a d1)) (Ok (rows_of a d1))) where
-      second : {m : (Reading PlaneSofar)} → r2 ≡ m → whole ≡ ◌>>=◌ (rows_made m d2) (add_frames o find regions p w y)
-      second z = first z1 ∙ rw (← q, ← below_line a.output a.annotation) (ap (λ (b : Reading Rows). ◌>>=◌ b (add_frames o find regions p w y)) (sym e2 ∙ ap (λ (m : Reading PlaneSofar). rows_made m d2) z))
+    module _ (u1 : Unit {0}) (z1 : r1 ≡ Ok u1) (u : Bool) (q : u ≡ is_at o.below y) (r2 : Reading (Unit {0})) (d2 : PlaneWriter)
+        (e2 : line_made r2 s d2 ≡ choose u (add_line (line_cell VerticalDoubleCrossing HorizontalAnnotationsDoubleLine HorizontalAnnotationsDoubleLine s.output s.annotation) (rows_of s d1)) (Ok (rows_of s d1))) where
+      second : {m : (Reading (Unit {0}))} → r2 ≡ m → whole ≡ ◌>>=◌ (line_made m s d2) (add_frames o find regions p w y)
+      second z = first z1 ∙ rw (← q, ← below_line s.output s.annotation) (ap (λ (b : Reading Rows). ◌>>=◌ b (add_frames o find regions p w y)) (sym e2 ∙ ap (λ (m : Reading (Unit {0})). line_made m s d2) z))
 
       pub below_out : (f : Refusal) → r2 ≡ Err f → Err f ≡ whole
       below_out f z = sym (second z)
 
-      pub lines_added : (b : PlaneSofar) → r2 ≡ Ok b → add_frames o find regions p w y (rows_of b d2) ≡ whole
-      lines_added b z = sym (second z)
+      pub lines_added : (u2 : Unit {0}) → r2 ≡ Ok u2 → add_frames o find regions p w y (rows_of s d2) ≡ whole
+      lines_added u2 z = sym (second z)
 
--- the rows of GRID above row y are added, and the plane is s
-pub record Growing (o : Outline) (w h count : ℕ) (l found : List ℕ) (d out : List ℕ) (y : ℕ) (s : PlaneSofar) : Type 0 where
+-- the rows of GRID above row y are added: the rows are a
+pub record Growing (o : Outline) (w h count : ℕ) (l found : List ℕ) (d out : PlaneWriter) (y : ℕ) (a : Rows) : Type 0 where
   pub along : y ≤ h
-  pub long : length out ≡ length d
-  pub fits : Fits s out
+  pub slice : SameSlice d out
+  pub rows : a.plane ≡ written out
+  pub few : a.width ≤ plane_cells
   pub same : Over w h count l found (λ rs.
-      each (add_grid_row o (frame_of grid (canvas w h l) w h) rs (canvas w h l) w) (those (λ _. true) y (h - y)) (rows_of s out) ≡ rows_by (frame_of grid (canvas w h l) w h) o rs (canvas w h l) w h)
+      each (add_grid_row o (frame_of grid (canvas w h l) w h) rs (canvas w h l) w) (those (λ _. true) y (h - y)) a ≡ rows_by (frame_of grid (canvas w h l) w h) o rs (canvas w h l) w h)
 
-pub growing_start : (o : Outline) (w h count : ℕ) (l found d : List ℕ) → plane_size ≤ length d
-    → Growing o w h count l found d d 0 (record { rows = 0; width = 0; output = None; annotation = None })
+pub growing_start : (o : Outline) (w h count : ℕ) (l found : List ℕ) (d : PlaneWriter) → d.rows ≡ 0
+    → Growing o w h count l found d d 0 (record { plane = written d; width = 0; output = None; annotation = None })
 unfolding plane_in run
-growing_start o w h count l found d g =
+growing_start o w h count l found d e =
     record {
       along = omega arith;
-      long = refl;
-      fits = record { plane = record { room = g; rows = omega arith; cells = λ j k. absurd (omega arith) }; width = omega arith };
-      same = λ rs n m. rw (sub-zero h);
+      slice = refl;
+      rows = refl;
+      few = omega arith;
+      same = λ rs n m. rw (e, sub-zero h);
     }
 
-module _ {o : Outline} {w h count : ℕ} {l found d out : List ℕ} {y : ℕ} {s : PlaneSofar} (q : Growing o w h count l found d out y s) where
+module _ {o : Outline} {w h count : ℕ} {l found : List ℕ} {d out : PlaneWriter} {y : ℕ} {a : Rows} (q : Growing o w h count l found d out y a) where
   abbrev add : List Rect → ℕ → Rows → Reading Rows
   add rs = add_grid_row o (frame_of grid (canvas w h l) w h) rs (canvas w h l) w
 
-  module _ (g : y < h) (r : Reading PlaneSofar) (b : List ℕ) (e : Over w h count l found (λ rs. rows_made r b ≡ add rs y (rows_of s out))) where
-    pub growing_more : RowsFit r b → length b ≡ length out → (t : PlaneSofar) → r ≡ Ok t → Growing o w h count l found d b (y + 1) t
-    growing_more f len t z =
+  module _ (g : y < h) (r : Reading PlaneSofar) (b : PlaneWriter) (e : Over w h count l found (λ rs. rows_made r b ≡ add rs y a)) where
+    pub growing_more : SameSlice out b → (t : PlaneSofar) → r ≡ Ok t → Growing o w h count l found d b (y + 1) (rows_of t b)
+    growing_more k t z =
         record {
           along = omega arith;
-          long = len ∙ q.long;
-          fits = rows_fit z f;
+          slice = k ∙ q.slice;
+          rows = refl;
+          few = t.few;
           same = λ rs n m.
-              sym (turn_on (add rs) (λ _. true) y h (rows_of s out) (rows_of t b) g (sym (e rs n m) ∙ ap (λ (a : Reading PlaneSofar). rows_made a b) z)) ∙ q.same rs n m;
+              sym (turn_on (add rs) (λ _. true) y h a (rows_of t b) g (sym (e rs n m) ∙ ap (λ (a : Reading PlaneSofar). rows_made a b) z)) ∙ q.same rs n m;
         }
 
     pub growing_out : (f : Refusal) → r ≡ Err f → Over w h count l found (λ rs. Err f ≡ plane_of o rs (canvas w h l) w h)
     unfolding plane_by
     growing_out f z rs n m =
         let v : rows_by (frame_of grid (canvas w h l) w h) o rs (canvas w h l) w h ≡ Err f =
-        sym (q.same rs n m) ∙ turn_out (add rs) (λ _. true) y h (rows_of s out) f g (sym (e rs n m) ∙ ap (λ (a : Reading PlaneSofar). rows_made a b) z) in
+        sym (q.same rs n m) ∙ turn_out (add rs) (λ _. true) y h a f g (sym (e rs n m) ∙ ap (λ (a : Reading PlaneSofar). rows_made a b) z) in
         rw v
 
-  pub growing_end : h ≤ y → Over w h count l found (λ rs. Ok (plane_in out s.rows) ≡ plane_of o rs (canvas w h l) w h)
+  pub growing_end : h ≤ y → Over w h count l found (λ rs. Ok (written out) ≡ plane_of o rs (canvas w h l) w h)
   unfolding plane_by
   growing_end g rs n m =
-      let v : rows_by (frame_of grid (canvas w h l) w h) o rs (canvas w h l) w h ≡ Ok (rows_of s out) = sym (q.same rs n m) ∙ turn_end (add rs) (λ _. true) y h (rows_of s out) g in
-      rw v
+      let v : rows_by (frame_of grid (canvas w h l) w h) o rs (canvas w h l) w h ≡ Ok a = sym (q.same rs n m) ∙ turn_end (add rs) (λ _. true) y h a g in
+      rw (v, q.rows)

@@ -1,4 +1,4 @@
--- What the functions of the plane step ask for, and what they answer with the slice that holds the plane.
+-- What the functions of the plane step ask for, and what they answer with the slice that holds the plane, or its writer.
 use Rattle.std.specs.Prelude.{List, ◌≡◌, ℕ, ◌*◌, length, Ok, Err}
 use Rattle.lists.specs.Picture.{canvas}
 use Rattle.model.specs.Layers.{picture_of}
@@ -7,6 +7,10 @@ use Rattle.model.specs.declared.Rect.{Rect}
 use Rattle.model.specs.declared.Refusal.{Refusal}
 use Rattle.model.specs.declared.Refusal.TheVariants.{RegionNotFound}
 use Rattle.cells.specs.Plane.{Plane, plane_in, PlaneFits}
+use Rattle.cells.specs.declared.plane_writer.PlaneWriter.{PlaneWriter}
+use Rattle.plane_rows.specs.Made.{rows_of}
+use Rattle.plane_rows.specs.Rows.{Rows}
+use Rattle.plane_rows.specs.declared.sofar.PlaneSofar.{PlaneSofar}
 use Rattle.regions.specs.Regions.{Finder}
 use Rattle.step.specs.declared.numbers.NumberedGrid.{NumberedGrid}
 use Rattle.lookup.specs.Lookup.{Numbered}
@@ -17,6 +21,11 @@ use Rattle.walks.specs.Kinds.{grid}
 abbrev pub no_region : Reading Rect → Refusal
 no_region (Ok f) = RegionNotFound f.left f.top
 no_region (Err r) = r
+
+-- an answer's rows
+abbrev pub rows_made : Reading PlaneSofar → PlaneWriter → Reading Rows
+rows_made (Ok s) w = Ok (rows_of s w)
+rows_made (Err r) w = Err r
 
 -- an answer's plane
 abbrev pub plane_made : Reading ℕ → List ℕ → Reading Plane

@@ -7,23 +7,26 @@ ghost use Rattle.std.specs.Prelude.{true, ◌≡◌, [], ◌*◌, ◌≤◌, ◌
 ghost use Rattle.lists.specs.Picture.{pic};
 ghost use Rattle.model.specs.Layers.{picture_of};
 ghost use Rattle.model.specs.Limits.{plane_size, region_count};
-ghost use Rattle.cells.specs.Plane.{KeptBefore};
+ghost use Rattle.cells.specs.Written.{plane_written, SameSlice, Kept};
 ghost use Rattle.regions.specs.Corners.{NextCorner};
-ghost use Rattle.rects.specs.Rects.{rects_of};
+ghost use Rattle.rects.specs.Rects.{rects_in};
 ghost use Rattle.regions.specs.Regions.{is_corner};
 ghost use Rattle.walks.specs.Frame.{frame_of, Place};
 ghost use Rattle.walks.specs.Kinds.{grid};
 ghost use Rattle.plane_cells.specs.Made.{row_of, row_made, RowFit, RowFits};
-ghost use Rattle.plane_rows.specs.Made.{rows_of, rows_made, Fits, RowsFit};
+ghost use Rattle.plane_rows.specs.Made.{rows_of};
 ghost use Rattle.step.specs.PlaneStep.{add_cell, row_by, add_frames, add_grid_row, plane_of};
-ghost use Rattle.step.specs.Made.{no_region, plane_made, MadeFits, frames_in, OverNumbered};
+ghost use Rattle.step.specs.Made.{no_region, rows_made, plane_made, MadeFits, frames_in, OverNumbered};
 
+use cells::plane_writer::PlaneWriter;
 use model::layer::Layer;
 use model::{Point, Refusal};
 use numbers::NumberedGrid;
 use outline::Outline;
 use plane_cells::RowSofar;
-use plane_rows::{PlaneSofar, line};
+use plane_rows::line;
+use plane_rows::sofar::PlaneSofar;
+use rects::list::Rects;
 
 // Why the frame that starts at a place has no region.
 fn why_none(layer: Layer, at: Point) -> Refusal
@@ -40,18 +43,17 @@ fn why_none(layer: Layer, at: Point) -> Refusal
 fn add_frame(
     n: NumberedGrid,
     at: Point,
-    plane: &mut [u32],
-    row: usize,
+    plane: &mut PlaneWriter,
     s: RowSofar,
 ) -> Result<RowSofar, Refusal>
-    requires { Place n.grid.width n.grid.height at.x at.y × RowFit s row × (plane_size ≤ length plane.old) × (is_corner (picture_of n.grid at.x at.y) ≡ true) }
-    ensures made { OverNumbered n.entry (λ rs. row_made result plane.new row ≡ add_cell n.entry.outline (frames_in n.entry) rs row at.y at.x (row_of s plane.old row)) }
-    ensures fits { RowFits result row }
-    ensures before { KeptBefore plane.old plane.new row }
+    requires { Place n.grid.width n.grid.height at.x at.y × RowFit s plane.old.rows × (is_corner (picture_of n.grid at.x at.y) ≡ true) }
+    ensures made { OverNumbered n.entry (λ rs. row_made result plane.new ≡ add_cell n.entry.outline (frames_in n.entry) rs plane.old.rows at.y at.x (row_of s plane.old)) }
+    ensures fits { RowFits result plane.new.rows }
+    ensures kept { Kept plane.old plane.new }
 {
     let k = n.found[at.y * n.grid.width + at.x] as usize;
     if k < n.count {
-        return plane_cells::add_cells(n.outline, at.x, k, plane, row, s);
+        return plane_cells::add_cells(n.outline, at.x, k, plane, s);
     }
     Err(why_none(n.grid, at))
 }
@@ -65,30 +67,28 @@ fn corner_in_row(layer: Layer, x: usize, y: usize) -> usize
     regions::next_corner(layer.codes, start + layer.width, start + x) - start
 }
 
-// The frames that start in row y, as a row of the plane.
+// The frames that start in row y, as the next row of the plane, not yet ended.
 fn make_row(
     n: NumberedGrid,
     y: usize,
-    plane: &mut [u32],
-    row: usize,
-    output: Option<usize>,
-    annotation: Option<usize>,
+    plane: &mut PlaneWriter,
+    above: PlaneSofar,
 ) -> Result<RowSofar, Refusal>
-    requires { (y < n.grid.height) × (plane_size ≤ length plane.old) }
-    ensures made { OverNumbered n.entry (λ rs. row_made result plane.new row ≡ row_by n.entry.outline (frames_in n.entry) rs (picture_of n.entry.grid) n.entry.grid.width row y (record { cells = []; output = output; annotation = annotation })) }
-    ensures fits { RowFits result row }
-    ensures before { KeptBefore plane.old plane.new row }
+    requires { y < n.grid.height }
+    ensures made { OverNumbered n.entry (λ rs. row_made result plane.new ≡ row_by n.entry.outline (frames_in n.entry) rs (picture_of n.entry.grid) n.entry.grid.width plane.old.rows y (record { cells = []; output = above.output; annotation = above.annotation })) }
+    ensures fits { RowFits result plane.new.rows }
+    ensures kept { Kept plane.old plane.new }
 {
     let w = n.grid.width;
     let mut x = corner_in_row(n.grid, 0, y);
     let mut s = RowSofar {
         cells: 0,
-        output,
-        annotation,
+        output: above.output,
+        annotation: above.annotation,
     };
     // No `for`: each turn goes on to the next corner.
     while x < w {
-        s = add_frame(n, Point { x, y }, plane, row, s)?;
+        s = add_frame(n, Point { x, y }, plane, s)?;
         x = corner_in_row(n.grid, x + 1, y);
     }
     Ok(s)
@@ -98,22 +98,20 @@ fn make_row(
 fn add_frames(
     n: NumberedGrid,
     y: usize,
-    plane: &mut [u32],
+    plane: &mut PlaneWriter,
     s: PlaneSofar,
 ) -> Result<PlaneSofar, Refusal>
-    requires { (y < n.grid.height) × Fits s plane.old }
+    requires { y < n.grid.height }
     ensures made { OverNumbered n.entry (λ rs. rows_made result plane.new ≡ add_frames n.entry.outline (frames_in n.entry) rs (picture_of n.entry.grid) n.entry.grid.width y (rows_of s plane.old)) }
-    ensures fits { RowsFit result plane.new }
+    ensures same { SameSlice plane.old plane.new }
 {
-    let row = s.rows;
-    let t = make_row(n, y, plane, row, s.output, s.annotation)?;
+    let t = make_row(n, y, plane, s)?;
     let width = t.cells;
     if width == 0 {
         return Ok(s);
     }
-    cells::end_row(plane, row, width);
+    plane.end_row(width);
     Ok(PlaneSofar {
-        rows: row + 1,
         width,
         output: t.output,
         annotation: t.annotation,
@@ -124,27 +122,26 @@ fn add_frames(
 fn add_grid_row(
     n: NumberedGrid,
     y: usize,
-    plane: &mut [u32],
+    plane: &mut PlaneWriter,
     s: PlaneSofar,
 ) -> Result<PlaneSofar, Refusal>
-    requires { (y < n.grid.height) × Fits s plane.old }
+    requires { y < n.grid.height }
     ensures made { OverNumbered n.entry (λ rs. rows_made result plane.new ≡ add_grid_row n.entry.outline (frames_in n.entry) rs (picture_of n.entry.grid) n.entry.grid.width y (rows_of s plane.old)) }
-    ensures fits { RowsFit result plane.new }
+    ensures same { SameSlice plane.old plane.new }
 {
     let o = n.outline;
-    let a = plane_rows::add_line_row(plane, s, y == o.y, line::MAIN)?;
-    let b = plane_rows::add_line_row(plane, a, plane_cells::is_at(o.below, y), line::ANNOTATIONS)?;
-    add_frames(n, y, plane, b)
+    plane_rows::add_line_row(plane, s, y == o.y, line::MAIN)?;
+    plane_rows::add_line_row(plane, s, plane_cells::is_at(o.below, y), line::ANNOTATIONS)?;
+    add_frames(n, y, plane, s)
 }
 
 // The plane of GRID, whose frames are numbered.
-fn add_grid_rows(n: NumberedGrid, plane: &mut [u32]) -> Result<usize, Refusal>
-    requires { plane_size ≤ length plane.old }
-    ensures made { OverNumbered n.entry (λ rs. plane_made result plane.new ≡ plane_of n.entry.outline rs (picture_of n.entry.grid) n.entry.grid.width n.entry.grid.height) }
-    ensures fits { MadeFits result plane.new }
+fn add_grid_rows(n: NumberedGrid, plane: &mut PlaneWriter) -> Result<(), Refusal>
+    requires { plane.old.rows ≡ 0 }
+    ensures made { OverNumbered n.entry (λ rs. plane_written result plane.new ≡ plane_of n.entry.outline rs (picture_of n.entry.grid) n.entry.grid.width n.entry.grid.height) }
+    ensures same { SameSlice plane.old plane.new }
 {
     let mut s = PlaneSofar {
-        rows: 0,
         width: 0,
         output: None,
         annotation: None,
@@ -152,28 +149,32 @@ fn add_grid_rows(n: NumberedGrid, plane: &mut [u32]) -> Result<usize, Refusal>
     for y in 0..n.grid.height {
         s = add_grid_row(n, y, plane, s)?;
     }
-    Ok(s.rows)
+    Ok(())
 }
 
-// The plane of a GRID layer, over `count` regions. The numbers of its frames are left in `found`.
+// The plane of a GRID layer, over the rects of its regions. The numbers of its frames are left in `found`.
 pub fn make_plane(
     o: Outline,
     layer: Layer,
-    rects: &[u32],
-    count: usize,
+    rects: Rects,
     found: &mut [u32],
     plane: &mut [u32],
 ) -> Result<usize, Refusal>
-    requires { (count ≤ region_count) × (count * 4 ≤ length rects.now) × (layer.height * layer.width ≤ length found.old) × (plane_size ≤ length plane.old) }
-    ensures made { plane_made result plane.new ≡ plane_of o (rects_of rects.now count) (picture_of layer.entry) layer.entry.width layer.entry.height }
+    requires { (rects.count ≤ region_count) × (layer.height * layer.width ≤ length found.old) × (plane_size ≤ length plane.old) }
+    ensures made { plane_made result plane.new ≡ plane_of o (rects_in rects.entry) (picture_of layer.entry) layer.entry.width layer.entry.height }
     ensures fits { MadeFits result plane.new }
 {
-    lookup::number_frames(layer, rects, count, found);
+    lookup::number_frames(layer, rects, found);
     let n = NumberedGrid {
         outline: o,
         grid: layer,
         found,
-        count,
+        count: rects.count,
     };
-    add_grid_rows(n, plane)
+    let mut writer = PlaneWriter {
+        cells: plane,
+        rows: 0,
+    };
+    add_grid_rows(n, &mut writer)?;
+    Ok(writer.rows)
 }

@@ -10,6 +10,7 @@ ghost use Rattle.text_planes.specs.RegionTexts.{region_texts_of, regions_in, Use
 use model::Refusal;
 use model::layer::Layer;
 use outline::Outline;
+use rects::list::Rects;
 
 // So many regions, whose texts have so many bytes.
 #[derive(Clone, Copy)]
@@ -31,7 +32,11 @@ pub fn read_regions(
     ensures used { UsedIn result bytes.new spans.new }
 {
     let count = regions::regions(thins, rects)?;
-    let used = texts::gather(text, rects, count, bytes, spans)?;
+    let found = Rects {
+        numbers: rects,
+        count,
+    };
+    let used = texts::gather(text, found, bytes, spans)?;
     Ok(RegionsRead { count, used })
 }
 
@@ -69,6 +74,10 @@ pub fn read_plane(
         height: grid.height,
     };
     let count = read_regions(text_layer, thin_layer, bodies, bytes, spans)?.count;
-    let rows = step::make_plane(o, grid, bodies, count, thins, text)?;
+    let rects = Rects {
+        numbers: bodies,
+        count,
+    };
+    let rows = step::make_plane(o, grid, rects, thins, text)?;
     Ok(PlaneRead { rows, count })
 }

@@ -14,7 +14,8 @@ use Rattle.lists.proofs.RunLaws.{build-same, map-run}
 use Rattle.lists.proofs.Tests.{by_flag}
 use Rattle.model.specs.Limits.{text_bytes}
 use Rattle.model.specs.declared.Refusal.TheVariants.{OverLimit}
-use Rattle.rects.specs.Rects.{rect_at, rects_of, RectIn}
+use Rattle.rects.specs.Rects.{rect_at, rects_in, RectIn}
+use Rattle.rects.specs.declared.list.Rects.{Rects}
 use Rattle.texts.specs.RegionText.{text_of, packed, texts_of}
 use Rattle.cells.specs.Spans.{offset_at, length_at, text_at, texts_in}
 use Rattle.texts.specs.Spans.{SpansIn, Slices, PutAt}
@@ -23,26 +24,26 @@ use Rattle.texts.proofs.SpanLaws.{spanned, offset-before, length_before, offset-
 use Rattle.texts.proofs.TextsLaws.{texts-all, texts_over, length_snoc}
 
 -- the text of rect k
-abbrev text : ℕ → ℕ → List ℕ → List ℕ → ℕ → List ℕ
-text w h t rs k = text_of (canvas w h t) (rect_at rs k)
+abbrev text : ℕ → ℕ → List ℕ → Rects → ℕ → List ℕ
+text w h t rs k = text_of (canvas w h t) (rect_at rs.numbers.now k)
 
 -- the bytes of the first k texts
-abbrev size : ℕ → ℕ → List ℕ → List ℕ → ℕ → ℕ
+abbrev size : ℕ → ℕ → List ℕ → Rects → ℕ → ℕ
 size w h t rs k = length (packed (build k (text w h t rs)))
 
-texts_built : (w h : ℕ) (t rs : List ℕ) (n : ℕ) → map (text_of (canvas w h t)) (rects_of rs n) ≡ build n (text w h t rs)
-texts_built w h t rs n = map-run (text_of (canvas w h t)) (rect_at rs) 0 n
+texts_built : (w h : ℕ) (t : List ℕ) (rs : Rects) → map (text_of (canvas w h t)) (rects_in rs) ≡ build rs.count (text w h t rs)
+texts_built w h t rs = map-run (text_of (canvas w h t)) (rect_at rs.numbers.now) 0 rs.count
 
-size-next : (w h : ℕ) (t rs : List ℕ) (k : ℕ) → size w h t rs (suc k) ≡ size w h t rs k + length (text w h t rs k)
+size-next : (w h : ℕ) (t : List ℕ) (rs : Rects) (k : ℕ) → size w h t rs (suc k) ≡ size w h t rs k + length (text w h t rs k)
 size-next w h t rs k = rw (build-next (text w h t rs) k) (length_snoc (build k (text w h t rs)) (text w h t rs k))
 
-size_grows : (w h : ℕ) (t rs : List ℕ) (k n : ℕ) → k ≤ n → size w h t rs k ≤ size w h t rs n
+size_grows : (w h : ℕ) (t : List ℕ) (rs : Rects) (k n : ℕ) → k ≤ n → size w h t rs k ≤ size w h t rs n
 size_grows w h t rs = grows (text w h t rs) (λ ts. length (packed ts)) (λ ts x. omega (arith, length_snoc ts x))
 
 -- the texts of the rects before k stand before `at`, each where its span tells
-pub record Gathering (w h : ℕ) (t rs d s₀ : List ℕ) (n : ℕ) (out s : List ℕ) (k at : ℕ) : Type 0 where
-  pub slices : Slices w h rs d s₀ n
-  pub along : k ≤ n
+pub record Gathering (w h : ℕ) (t : List ℕ) (rs : Rects) (d s₀ out s : List ℕ) (k at : ℕ) : Type 0 where
+  pub slices : Slices w h rs d s₀
+  pub along : k ≤ rs.count
   pub room : at ≤ text_bytes
   pub sized : at ≡ size w h t rs k
   pub told : (j : ℕ) → j < k → text_at out s j ≡ text w h t rs j
@@ -50,7 +51,7 @@ pub record Gathering (w h : ℕ) (t rs d s₀ : List ℕ) (n : ℕ) (out s : Lis
   pub long : length out ≡ length d
   pub spans : length s ≡ length s₀
 
-pub gathering_start : {w h : ℕ} {t rs d s₀ : List ℕ} {n : ℕ} → Slices w h rs d s₀ n → Gathering w h t rs d s₀ n d s₀ 0 0
+pub gathering_start : {w h : ℕ} {t : List ℕ} {rs : Rects} {d s₀ : List ℕ} → Slices w h rs d s₀ → Gathering w h t rs d s₀ d s₀ 0 0
 unfolding run packed
 gathering_start g =
     record {
@@ -64,20 +65,20 @@ gathering_start g =
       spans = refl;
     }
 
-module _ {w h : ℕ} {t rs d s₀ : List ℕ} {n : ℕ} {out s : List ℕ} {k at : ℕ} (q : Gathering w h t rs d s₀ n out s k at) where
-  module _ (l : k < n) where
-    pub gathering_room : (k * 4 + 4 ≤ length rs) × RectIn w h (rect_at rs k) × (at ≤ text_bytes) × (text_bytes + 4 ≤ length out)
-    gathering_room = (omega (arith, q.slices.rects), q.slices.inside k l, q.room, omega (arith, q.slices.bytes, q.long))
+module _ {w h : ℕ} {t : List ℕ} {rs : Rects} {d s₀ out s : List ℕ} {k at : ℕ} (q : Gathering w h t rs d s₀ out s k at) where
+  module _ (l : k < rs.count) where
+    pub gathering_room : (k < rs.count) × RectIn w h (rect_at rs.numbers.now k) × (at ≤ text_bytes) × (text_bytes + 4 ≤ length out)
+    gathering_room = (l, q.slices.inside k l, q.room, omega (arith, q.slices.bytes, q.long))
 
     -- its span has room
     here : k * 2 + 2 ≤ length s
     here = omega (arith, q.slices.spans, q.spans)
 
     module _ {o : List ℕ} {e : ℕ} (m : PutAt (text w h t rs k) out o at e) where
-      pub gathering_over : text_bytes < e → Err OverLimit ≡ texts_of (canvas w h t) (rects_of rs n)
+      pub gathering_over : text_bytes < e → Err OverLimit ≡ texts_of (canvas w h t) (rects_in rs)
       gathering_over u =
-          let b : text_bytes < size w h t rs n = omega (arith, size_grows w h t rs (suc k) n (omega arith), size-next w h t rs k, m.ends, q.sized) in
-          sym (texts_over (canvas w h t) (rects_of rs n) (rw (texts_built w h t rs n) b))
+          let b : text_bytes < size w h t rs rs.count = omega (arith, size_grows w h t rs (suc k) rs.count (omega arith), size-next w h t rs k, m.ends, q.sized) in
+          sym (texts_over (canvas w h t) (rects_in rs) (rw (texts_built w h t rs) b))
 
       module _ (u : e ≤ text_bytes) where
         ends : e ≡ at + length (text w h t rs k)
@@ -111,7 +112,7 @@ module _ {w h : ℕ} {t rs d s₀ : List ℕ} {n : ℕ} {out s : List ℕ} {k at
             let y : j ≡ k = omega (arith, ltb-false j k f) in
             rw (y, offset-here s k at (e - at) here, length-here s k at (e - at) here) (omega (arith, gathering_back)))
 
-        pub gathering_more : length o ≡ length out → Gathering w h t rs d s₀ n o (spanned s k at (e - at)) (k + 1) e
+        pub gathering_more : length o ≡ length out → Gathering w h t rs d s₀ o (spanned s k at (e - at)) (k + 1) e
         gathering_more g =
             record {
               slices = q.slices;
@@ -124,17 +125,17 @@ module _ {w h : ℕ} {t rs d s₀ : List ℕ} {n : ℕ} {out s : List ℕ} {k at
               spans = simp length-set q.spans;
             }
 
-  module _ (l : n ≤ k) where
-    all : k ≡ n
+  module _ (l : rs.count ≤ k) where
+    all : k ≡ rs.count
     all = omega (arith, q.along)
 
-    all_told : texts_in out s n ≡ build n (text w h t rs)
-    all_told = build-same n (text_at out s) (text w h t rs) (λ j v. q.told j (omega (arith, all)))
+    all_told : texts_in out s rs.count ≡ build rs.count (text w h t rs)
+    all_told = build-same rs.count (text_at out s) (text w h t rs) (λ j v. q.told j (omega (arith, all)))
 
-    pub gathering_texts : Ok (texts_in out s n) ≡ texts_of (canvas w h t) (rects_of rs n)
+    pub gathering_texts : Ok (texts_in out s rs.count) ≡ texts_of (canvas w h t) (rects_in rs)
     gathering_texts =
-        let b : size w h t rs n ≤ text_bytes = omega (arith, rw all at q.sized, q.room) in
-        rw (all_told, ← texts_built w h t rs n) (sym (texts-all (canvas w h t) (rects_of rs n) (rw (texts_built w h t rs n) b)))
+        let b : size w h t rs rs.count ≤ text_bytes = omega (arith, rw all at q.sized, q.room) in
+        rw (all_told, ← texts_built w h t rs) (sym (texts-all (canvas w h t) (rects_in rs) (rw (texts_built w h t rs) b)))
 
-    pub gathering_spans : SpansIn (Ok at) out s n
-    gathering_spans = (rw (all_told, ← all) q.sized, (q.room, λ j v. q.inside j (omega (arith, all))))
+    pub gathering_spans : SpansIn (Ok at) out s rs.count
+    gathering_spans = (rw all_told (rw all at q.sized), (q.room, λ j v. q.inside j (omega (arith, all))))

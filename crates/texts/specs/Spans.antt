@@ -5,6 +5,7 @@ use Rattle.model.specs.Limits.{text_bytes}
 use Rattle.model.specs.Refusals.{Reading}
 use Rattle.cells.specs.Spans.{offset_at, length_at, texts_in}
 use Rattle.rects.specs.Rects.{rect_at, RectIn}
+use Rattle.rects.specs.declared.list.Rects.{Rects}
 use Rattle.texts.specs.RegionText.{packed}
 
 -- an answer's texts, with the slices that hold them
@@ -18,12 +19,11 @@ SpansIn (Ok used) bytes spans n =
     (used ≡ length (packed (texts_in bytes spans n))) × ((used ≤ text_bytes) × ((k : ℕ) → k < n → offset_at spans k + length_at spans k ≤ used))
 SpansIn (Err r) bytes spans n = Unit {0}
 
--- the slices that gathering is handed: n rects that lie in w columns and h rows, and room for 61,440 bytes with the four of a code point more
-pub record Slices (w h : ℕ) (rs b s : List ℕ) (n : ℕ) : Type 0 where
-  pub rects : n * 4 ≤ length rs
-  pub inside : (k : ℕ) → k < n → RectIn w h (rect_at rs k)
+-- what gathering is handed: rects that lie in w columns and h rows, and room for 61,440 bytes with the four of a code point more
+pub record Slices (w h : ℕ) (rs : Rects) (b s : List ℕ) : Type 0 where
+  pub inside : (k : ℕ) → k < rs.count → RectIn w h (rect_at rs.numbers.now k)
   pub bytes : text_bytes + 4 ≤ length b
-  pub spans : n * 2 ≤ length s
+  pub spans : rs.count * 2 ≤ length s
 
 -- v is written into d from `at` on, and r is the place behind it; past 61,440 bytes r is one more, whatever was written
 pub record PutAt (v d o : List ℕ) (at r : ℕ) : Type 0 where

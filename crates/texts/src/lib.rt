@@ -2,10 +2,10 @@
 // A slice with a place or a count: it is lent by the caller, in C too, as `record` says.
 #![tactic(auto)]
 
-ghost use Rattle.std.specs.Prelude.{◌≡◌, ◌+◌, ◌-◌, ◌*◌, ◌≤◌, ltb, length, take, drop};
+ghost use Rattle.std.specs.Prelude.{◌≡◌, ◌+◌, ◌-◌, ◌≤◌, ◌<◌, ltb, length, take, drop};
 ghost use Rattle.model.specs.Layers.{picture_of};
 ghost use Rattle.model.specs.Limits.{text_bytes};
-ghost use Rattle.rects.specs.Rects.{rect_at, rects_of, RectIn};
+ghost use Rattle.rects.specs.Rects.{rect_at, rects_in, RectIn};
 ghost use Rattle.utf8.specs.Utf8.{encodes};
 ghost use Rattle.texts.specs.RegionText.{text_of, texts_of};
 ghost use Rattle.texts.specs.Rows.{next};
@@ -14,6 +14,7 @@ ghost use Rattle.texts.specs.Spans.{gathered_in, SpansIn, Slices, PutAt};
 use model::Refusal;
 use model::layer::Layer;
 use model::limits::TEXT_BYTES;
+use rects::list::Rects;
 
 // The characters from one place up to another, into the bytes from `at` on.
 fn put_part(text: &[u32], from: usize, to: usize, bytes: &mut [u8], at: usize) -> usize
@@ -59,11 +60,11 @@ fn put_next(
 }
 
 // The text of rect k, into the bytes from `start` on. Each row's part is read where it lies.
-fn put_text(text: Layer, rects: &[u32], k: usize, bytes: &mut [u8], start: usize) -> usize
-    requires { (k * 4 + 4 ≤ length rects.now) × RectIn text.width text.height (rect_at rects.now k) × (start ≤ text_bytes) × (text_bytes + 4 ≤ length bytes.old) }
-    ensures { PutAt (text_of (picture_of text.entry) (rect_at rects.now k)) bytes.old bytes.new start result }
+fn put_text(text: Layer, rects: Rects, k: usize, bytes: &mut [u8], start: usize) -> usize
+    requires { (k < rects.count) × RectIn text.width text.height (rect_at rects.numbers.now k) × (start ≤ text_bytes) × (text_bytes + 4 ≤ length bytes.old) }
+    ensures { PutAt (text_of (picture_of text.entry) (rect_at rects.entry.numbers.now k)) bytes.old bytes.new start result }
 {
-    let r = rects::rect_at(rects, k);
+    let r = rects.at(k);
     let from = r.left + 1;
     let to = r.right - 1;
     let bottom = r.bottom - 1;
@@ -80,20 +81,19 @@ fn put_text(text: Layer, rects: &[u32], k: usize, bytes: &mut [u8], start: usize
     at
 }
 
-// The texts of the first n rects, one behind the other, and where each stands.
+// The texts of rects, one behind the other, and where each stands.
 pub fn gather(
     text: Layer,
-    rects: &[u32],
-    n: usize,
+    rects: Rects,
     bytes: &mut [u8],
     spans: &mut [u32],
 ) -> Result<usize, Refusal>
-    requires { Slices text.width text.height rects.now bytes.old spans.old n }
-    ensures answer { gathered_in result bytes.new spans.new n ≡ texts_of (picture_of text.entry) (rects_of rects.now n) }
-    ensures spans { SpansIn result bytes.new spans.new n }
+    requires { Slices text.width text.height rects bytes.old spans.old }
+    ensures answer { gathered_in result bytes.new spans.new rects.entry.count ≡ texts_of (picture_of text.entry) (rects_in rects.entry) }
+    ensures spans { SpansIn result bytes.new spans.new rects.entry.count }
 {
     let mut at = 0;
-    for k in 0..n {
+    for k in 0..rects.count {
         let e = put_text(text, rects, k, bytes, at);
         if TEXT_BYTES < e {
             return Err(Refusal::OverLimit);

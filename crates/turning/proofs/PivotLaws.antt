@@ -42,17 +42,16 @@ module _ (d : List ℕ) (n w : ℕ) (h : 0 < n) (e : w ≡ get_or d 0 0) where
   unfolding pivot_of
   pivot_narrow f = rw (length-plane d n, lt-ltb 0 n h, first-wide, f)
 
-  pub pivot_wide : (out : List ℕ) → wide w (plane_in d n) ≡ true
-      → plane_in out w ≡ build w (λ j. build n (λ i. turned_cell (cell_at d i j))) → Ok (plane_in out w) ≡ pivot_of (plane_in d n)
+  pub pivot_wide : (P : Plane) → wide w (plane_in d n) ≡ true → P ≡ build w (λ j. build n (λ i. turned_cell (cell_at d i j))) → Ok P ≡ pivot_of (plane_in d n)
   unfolding pivot_of
-  pivot_wide out t q =
+  pivot_wide P t q =
       let z = q ∙ columns-turned d n w t first-wide in
       rw (z, length-plane d n, lt-ltb 0 n h, first-wide, t)
 
 module _ (o : Orientation) (d : List ℕ) (n : ℕ) where
-  pub row-sheet : (out : List ℕ) → o ≡ RulesAsRows → plane_in out n ≡ map (drop 1) (plane_in d n) → Ok (plane_in out n) ≡ upright_of o (plane_in d n)
+  pub row-sheet : (P : Plane) → o ≡ RulesAsRows → P ≡ map (drop 1) (plane_in d n) → Ok P ≡ upright_of o (plane_in d n)
   unfolding upright_of
-  row-sheet out e q = rw (e, q)
+  row-sheet P e q = rw (e, q)
 
   pub column-sheet : (m : Reading Plane) → o ≡ RulesAsColumns → 0 < n → m ≡ pivot_of (plane_in d (n - 1)) → m ≡ upright_of o (plane_in d n)
   unfolding upright_of

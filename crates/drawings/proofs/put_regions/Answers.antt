@@ -26,10 +26,13 @@ read_regions-requires g c =
       two_each = omega arith;
     }
 
+pub invariant_of-rects : goal.invariant_of-rects
+invariant_of-rects g c = omega (arith, read-few _ _ _ c.read_regions.ensures.used c.in-Ok.is, c.read_regions.auto.rects)
+
 pub put_regions-requires : goal.put_regions-requires
 put_regions-requires g c =
     let few = read-few _ _ _ c.read_regions.ensures.used c.in-Ok.is in
-    (search arith, (omega (arith, c.requires.0), record { count = few; four_each = omega (arith, few, c.read_regions.auto.rects); few = read-total _ _ _ c.read_regions.ensures.used c.in-Ok.is }))
+    (search arith, (omega (arith, c.requires.0), record { count = few; same = refl; few = read-total _ _ _ c.read_regions.ensures.used c.in-Ok.is }))
 
 pub put_name-requires : goal.put_name-requires
 put_name-requires g c =
@@ -44,7 +47,6 @@ put_step-requires g c =
         omega (arith, p.0, written_long c.put_regions.ensures, written_long c.put_name.ensures),
         record { columns = omega (arith, p.1.columns, p.3.columns); rows = omega (arith, p.1.rows, p.3.rows) },
         few,
-        omega (arith, few, c.read_regions.auto.rects),
       ),
     )
 

@@ -3,7 +3,7 @@ use mathlib.Core.Path.{◌≡◌, sym, ◌∙◌}
 use mathlib.Core.Bool.{true}
 use lib.ListN.{length}
 use Rattle.lent.specs.Lent.{lists_of}
-use Rattle.lent.specs.LentPlane.{LentPlane, within_limits, counts_agree, cells_known}
+use Rattle.lent.specs.LentPlane.{within_limits, counts_agree, cells_known}
 use Rattle.lent.proofs.LimitLaws.{few-rows}
 use Rattle.lent.proofs.CountLaws.{same-regions, same-sizes}
 use Rattle.lent.proofs.FormLaws.{too_much, not_agreed, not_known, parts_decide}

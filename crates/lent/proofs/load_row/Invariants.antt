@@ -1,7 +1,7 @@
-use Prim.Native.Nat.{◌+◌, ◌-◌, ◌≤◌}
-use Rattle.cells.proofs.FillLaws.{RowFilled}
+use Prim.Native.Nat.{◌+◌, ◌≤◌}
+use Rattle.cells.proofs.WriterLaws.{RowWritten}
 use Rattle.lent.proofs.KindLaws.{lent_cell}
 use Rattle.lent.proofs.load_row.Given as goal
 
 abbrev pub invariant-loop-i : goal.invariant-loop-i
-invariant-loop-i l = (l.i ≤ l.n) × RowFilled (λ k. lent_cell l.kinds l.regions (l.at + k)) l.initial.plane l.plane l.row l.i
+invariant-loop-i l = (l.i ≤ l.n) × RowWritten (λ k. lent_cell l.kinds l.regions (l.at + k)) l.initial.plane l.plane l.i

@@ -1,8 +1,7 @@
 -- `lent::load_rows` meets its contract.
 use mathlib.Core.Path.{◌∙◌}
 use lib.ListN.{length}
-use Rattle.cells.proofs.PlaneLaws.{kept-fits}
-use Rattle.cells.proofs.FillLaws.{plane-start, plane-next, plane_end}
+use Rattle.cells.proofs.WriterLaws.{plane-begun, plane-more, plane-full}
 use Rattle.lent.proofs.SumLaws.{start_zero, start-next, row_within}
 use Rattle.lent.proofs.CutLaws.{row_at, cut-rows}
 use Rattle.lent.proofs.KindLaws.{lent_cell}
@@ -10,7 +9,7 @@ use native.Mathlib.Omega.{arith}
 use Rattle.lent.proofs.load_rows.Goals as goal
 
 pub loop-row-init : goal.loop-row-init
-loop-row-init c = (omega arith, start_zero c.args.rows.now, plane-start _ _ c.requires.1)
+loop-row-init c = (omega arith, start_zero c.args.rows.now, plane-begun _ _ c.requires.1)
 
 pub overflow_cast-n : goal.overflow_cast-n
 overflow_cast-n c = omega (arith, c.shared_slice_known-in-loop-row-1.given c.loop-row.row)
@@ -22,15 +21,14 @@ load_row-requires c =
       p.0.cells,
       omega (arith, c.loop-row.invariant.1, row_within c.args.rows.now c.loop-row.row h, p.0.total),
       p.0.short _ h,
-      omega (arith, h, p.0.few),
-      omega (arith, c.loop-row.invariant.2.same, p.1),
+      omega (arith, c.loop-row.invariant.2.rows, h, p.0.few),
     )
 
 pub end_row-requires : goal.end_row-requires
 end_row-requires c =
     let h = c.loop-row-test.true in
     let p = c.requires in
-    (kept-fits _ _ _ c.load_row.ensures.before c.load_row.auto.plane c.loop-row.invariant.2.fits, omega (arith, h, p.0.few), p.0.short _ h)
+    (omega (arith, c.load_row.ensures.kept.rows, c.loop-row.invariant.2.rows, h, p.0.few), p.0.short _ h)
 
 pub overflow_add-at : goal.overflow_add-at
 overflow_add-at c =
@@ -43,13 +41,17 @@ loop-row-preserved c =
     let i = c.loop-row.invariant in (
       omega (arith, h),
       rw i.1 (start-next a.rows.now c.loop-row.row h),
-      plane-next _ _ _ _ _ _ _ i.2 c.load_row.auto.plane c.load_row.ensures.before
+      plane-more i.2 c.load_row.ensures.kept
           (c.load_row.ensures.cells ∙ row_at a.rows.now (lent_cell a.kinds.now a.regions.now) c.loop-row.row c.loop-row.at i.1)
-          c.end_row.auto.plane c.end_row.ensures.rows c.end_row.ensures.fits,
+          c.end_row.ensures,
     )
 
 pub returns : goal.returns
 returns c =
     let a = c.args in
-    let f = plane_end _ _ _ (length a.rows.now) _ c.loop-row.invariant.2 c.loop-row.invariant.0 c.loop-row-test.false in
-    record { plane = f.plane ∙ cut-rows a.rows.now (length a.kinds.now) (lent_cell a.kinds.now a.regions.now) c.requires.0.total; fits = f.fits }
+    let i = c.loop-row.invariant in
+    let f = plane-full i.2 (length a.rows.now) i.0 c.loop-row-test.false in
+    record {
+      rows = omega (arith, i.2.rows, i.0, c.loop-row-test.false);
+      plane = record { same = f.same; plane = f.plane ∙ cut-rows a.rows.now (length a.kinds.now) (lent_cell a.kinds.now a.regions.now) c.requires.0.total };
+    }

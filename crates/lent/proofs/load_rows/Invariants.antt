@@ -1,11 +1,11 @@
 use mathlib.Core.Path.{◌≡◌}
-use Prim.Native.Nat.{◌-◌, ◌≤◌}
+use Prim.Native.Nat.{◌≤◌}
 use lib.ListN.{length}
-use Rattle.cells.proofs.FillLaws.{PlaneFilled}
+use Rattle.cells.proofs.WriterLaws.{PlaneWritten}
 use Rattle.lent.proofs.SumLaws.{start_of}
 use Rattle.lent.proofs.CutLaws.{row_cells}
 use Rattle.lent.proofs.KindLaws.{lent_cell}
 use Rattle.lent.proofs.load_rows.Given as goal
 
 abbrev pub invariant-loop-row : goal.invariant-loop-row
-invariant-loop-row l = (l.row ≤ length l.rows) × (l.at ≡ start_of l.rows l.row) × PlaneFilled (row_cells l.rows (lent_cell l.kinds l.regions)) l.initial.plane l.plane l.row
+invariant-loop-row l = (l.row ≤ length l.rows) × (l.at ≡ start_of l.rows l.row) × PlaneWritten (row_cells l.rows (lent_cell l.kinds l.regions)) l.initial.plane l.plane l.row

@@ -1,4 +1,4 @@
-use Prim.Native.Nat.{◌-◌, ◌≤◌}
+use Prim.Native.Nat.{◌≤◌}
 use lib.ListN.{length}
 use Rattle.cells.proofs.SpanLaws.{SpansFilled}
 use Rattle.lent.proofs.TextLaws.{text_on}

@@ -1,5 +1,5 @@
 use mathlib.Core.Path.{◌≡◌}
-use Prim.Native.Nat.{◌-◌, ◌*◌, ◌^◌, ◌≤◌}
+use Prim.Native.Nat.{◌*◌, ◌^◌, ◌≤◌}
 use lib.ListN.{length}
 use Rattle.lent.proofs.SumLaws.{start_of}
 use Rattle.lent.proofs.total.Given as goal

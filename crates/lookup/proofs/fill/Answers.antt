@@ -8,15 +8,15 @@ use Rattle.lookup.proofs.FirstLaws.{filled, filled_none, filled_next}
 use Rattle.lookup.proofs.fill.Goals as goal
 
 pub loop-i-init : goal.loop-i-init
-loop-i-init c = (omega arith, sym (filled_none c.args.rects.now c.args.nums.now))
+loop-i-init c = (omega arith, sym (filled_none c.args.run.now c.args.rects.numbers.now))
 
 pub loop-i-preserved : goal.loop-i-preserved
 loop-i-preserved c =
     let l = c.loop-i in
-    let old = c.args.rects.now in
-    let d = c.args.nums.now in (
+    let old = c.args.run.now in
+    let d = c.args.rects.numbers.now in (
       omega (arith, c.loop-i-test.true),
-      ap (λ (t : List Rect). set t l.i c.rect_at-r.result) l.invariant.1
-          ∙ ap (set (filled old d l.i) l.i) c.rect_at-r.ensures
-          ∙ filled_next old d l.i (omega (arith, c.loop-i-test.true, c.requires.0)),
+      ap (λ (t : List Rect). set t l.i c.at.result) l.invariant.1
+          ∙ ap (set (filled old d l.i) l.i) c.at.ensures
+          ∙ filled_next old d l.i (omega (arith, c.loop-i-test.true, c.requires)),
     )

@@ -4,4 +4,4 @@ use Rattle.lookup.proofs.FirstLaws.{filled}
 use Rattle.lookup.proofs.fill.Given as goal
 
 abbrev pub invariant-loop-i : goal.invariant-loop-i
-invariant-loop-i l = (l.i ≤ l.count) × (l.rects ≡ filled l.initial.rects l.nums l.i)
+invariant-loop-i l = (l.i ≤ l.rects.count) × (l.run ≡ filled l.initial.run l.rects.numbers.now l.i)

@@ -9,5 +9,5 @@ use Rattle.sketch.proofs.put_rect.Goals as goal
 pub returns : goal.returns
 unfolding rect_words
 returns g c =
-    subst (λ (q : Rect). Written c.args.out.now.items c.put_spaced-4.new.out.items (rect_words q) 84) c.rect_at-r.ensures
+    subst (λ (q : Rect). Written c.args.out.now.items c.put_spaced-4.new.out.items (rect_words q) 84) c.at-r.ensures
     (written_then c.put_spaced.ensures (written_then c.put_spaced-2.ensures (written_then c.put_spaced-3.ensures c.put_spaced-4.ensures)))

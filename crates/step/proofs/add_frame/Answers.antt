@@ -5,7 +5,7 @@ use Prim.Native.Nat.{◌+◌, ◌*◌, ◌<◌}
 use native.Mathlib.Omega.{arith}
 use lib.ListN.{length}
 use Rattle.lists.proofs.PictureLaws.{place-fits}
-use Rattle.cells.proofs.PlaneLaws.{kept_refl}
+use Rattle.cells.proofs.WriterLaws.{same_kept}
 use Rattle.plane_cells.specs.Made.{row_of}
 use Rattle.step.specs.Made.{frames_in}
 use Rattle.step.proofs.RowLaws.{with_region, no_region_lem, number_at}
@@ -31,16 +31,16 @@ bounds-n-at c = inside (goal.at.bounds-n-at c).Start
 
 pub add_cells-requires : goal.add_cells-requires
 add_cells-requires c =
-    (omega (arith, c.if-k-n.true, c.args.n.few), c.requires.1, c.requires.2)
+    (omega (arith, c.if-k-n.true, c.args.n.few), c.requires.1)
 
 pub returns-then-k-n : goal.returns-then-k-n
 returns-then-k-n c =
     let a = c.args in record {
       made = λ rs n m.
           c.add_cells.ensures.made
-          ∙ with_region a.n.outline (frames_in c.args.n) rs a.row a.at.y a.at.x (row_of c.args.s c.args.plane.now c.args.row) _ (number_at (frames_in c.args.n) rs a.n.grid.width a.n.grid.height a.n.grid.codes.now a.n.found.now a.at.x a.at.y c.requires.0.column c.requires.0.row c.requires.3 m) (omega (arith, n, c.if-k-n.true));
+          ∙ with_region a.n.outline (frames_in c.args.n) rs a.plane.now.rows a.at.y a.at.x (row_of c.args.s c.args.plane.now) _ (number_at (frames_in c.args.n) rs a.n.grid.width a.n.grid.height a.n.grid.codes.now a.n.found.now a.at.x a.at.y c.requires.0.column c.requires.0.row c.requires.2 m) (omega (arith, n, c.if-k-n.true));
       fits = c.add_cells.ensures.fits;
-      before = c.add_cells.ensures.before;
+      kept = c.add_cells.ensures.kept;
     }
 
 pub why_none-requires : goal.why_none-requires
@@ -51,7 +51,7 @@ returns c =
     let a = c.args in record {
       made = λ rs n m.
           ap Err c.why_none.ensures
-          ∙ no_region_lem a.n.outline (frames_in c.args.n) rs a.row a.at.y a.at.x (row_of c.args.s c.args.plane.now c.args.row) _ (number_at (frames_in c.args.n) rs a.n.grid.width a.n.grid.height a.n.grid.codes.now a.n.found.now a.at.x a.at.y c.requires.0.column c.requires.0.row c.requires.3 m) (omega (arith, n, c.if-k-n.false));
+          ∙ no_region_lem a.n.outline (frames_in c.args.n) rs a.plane.now.rows a.at.y a.at.x (row_of c.args.s c.args.plane.now) _ (number_at (frames_in c.args.n) rs a.n.grid.width a.n.grid.height a.n.grid.codes.now a.n.found.now a.at.x a.at.y c.requires.0.column c.requires.0.row c.requires.2 m) (omega (arith, n, c.if-k-n.false));
       fits = tt;
-      before = kept_refl a.plane.now a.row;
+      kept = same_kept a.plane.now;
     }

@@ -1,5 +1,6 @@
 -- `step::add_grid_rows` meets its contract.
 use Rattle.std.proofs.lemmas.Result.{err_from_is_err_and}
+use mathlib.Core.Path.{◌∙◌}
 use Rattle.step.proofs.RowsLaws.{growing_start, growing_more, growing_out, growing_end}
 use Rattle.step.proofs.add_grid_rows.Goals as goal
 
@@ -7,17 +8,17 @@ pub loop-y-init : goal.loop-y-init
 loop-y-init c = growing_start _ _ _ _ _ _ _ c.requires
 
 pub add_grid_row-requires : goal.add_grid_row-requires
-add_grid_row-requires c =
-    (c.loop-y-test.true, c.loop-y.invariant.fits)
+add_grid_row-requires c = c.loop-y-test.true
 
 pub returns-in_err-s : goal.returns-in_err-s
 returns-in_err-s c =
     let p = err_from_is_err_and c.from_residual.result c.from_residual.ensures.1 in
-    rw (p.1, p.2) (record { made = growing_out c.loop-y.invariant c.loop-y-test.true _ _ c.add_grid_row.ensures.made _ c.in_err-s.was; fits = tt })
+    let i = c.loop-y.invariant in
+    rw (p.1, p.2) (record { made = growing_out i c.loop-y-test.true _ _ c.add_grid_row.ensures.made _ c.in_err-s.was; same = c.add_grid_row.ensures.same ∙ i.slice })
 
 pub loop-y-preserved : goal.loop-y-preserved
 loop-y-preserved c =
-    growing_more c.loop-y.invariant c.loop-y-test.true _ _ c.add_grid_row.ensures.made c.add_grid_row.ensures.fits c.add_grid_row.auto.plane _ c.in_ok-s.was
+    growing_more c.loop-y.invariant c.loop-y-test.true _ _ c.add_grid_row.ensures.made c.add_grid_row.ensures.same _ c.in_ok-s.was
 
 pub returns : goal.returns
-returns c = let q = c.loop-y.invariant in record { made = growing_end q c.loop-y-test.false; fits = q.fits.plane }
+returns c = let q = c.loop-y.invariant in record { made = growing_end q c.loop-y-test.false; same = q.slice }

@@ -6,26 +6,26 @@ use Rattle.step.proofs.make_row.Goals as goal
 use Rattle.step.proofs.make_row.Goals.{Start}
 
 pub corner_in_row-x-requires : goal.corner_in_row-x-requires
-corner_in_row-x-requires c = (omega arith, c.requires.0)
+corner_in_row-x-requires c = (omega arith, c.requires)
 
 pub loop-x-init : goal.loop-x-init
-loop-x-init c = filling_start _ _ _ _ _ _ _ _ _ _ _ _ c.requires.0 c.corner_in_row-x.ensures
+loop-x-init c = filling_start _ _ _ _ _ _ _ _ _ _ _ c.requires c.corner_in_row-x.ensures
 
 pub add_frame-requires : goal.add_frame-requires
 add_frame-requires c =
     let g = c.loop-x-test.true in
-    (record { column = g; row = c.requires.0 }, c.loop-x.invariant.fits, omega (arith, c.loop-x.invariant.long, c.requires.1), c.loop-x.invariant.starts g)
+    (record { column = g; row = c.requires }, c.loop-x.invariant.fits, c.loop-x.invariant.starts g)
 
 pub returns-in_err-s : goal.returns-in_err-s
 returns-in_err-s c =
     let p = err_from_is_err_and c.from_residual.result c.from_residual.ensures.1 in
     let f = c.add_frame.ensures in
-    let q = filling_out c.loop-x.invariant c.loop-x-test.true _ _ f.made f.before _ c.in_err-s.was in
-    rw (p.1, p.2) (record { made = q.0; fits = tt; before = q.1 })
+    let q = filling_out c.loop-x.invariant c.loop-x-test.true _ _ f.made f.kept _ c.in_err-s.was in
+    rw (p.1, p.2) (record { made = q.0; fits = tt; kept = q.1 })
 
 pub corner_in_row-x-requires-in-loop-x : goal.corner_in_row-x-requires-in-loop-x
 corner_in_row-x-requires-in-loop-x c =
-    (omega (arith, c.loop-x-test.true), c.requires.0)
+    (omega (arith, c.loop-x-test.true), c.requires)
 
 pub loop-x-smaller : goal.loop-x-smaller
 loop-x-smaller c = omega (arith, c.loop-x-test.true, c.corner_in_row-x-in-loop-x.ensures.from)
@@ -33,7 +33,7 @@ loop-x-smaller c = omega (arith, c.loop-x-test.true, c.corner_in_row-x-in-loop-x
 pub loop-x-preserved : goal.loop-x-preserved
 loop-x-preserved c =
     let f = c.add_frame.ensures in
-    filling_more c.loop-x.invariant c.loop-x-test.true _ _ f.made f.before f.fits c.add_frame.auto.plane _ c.in_ok-s.was _ c.requires.0 c.corner_in_row-x-in-loop-x.ensures
+    filling_more c.loop-x.invariant c.loop-x-test.true _ _ f.made f.kept f.fits _ c.in_ok-s.was _ c.requires c.corner_in_row-x-in-loop-x.ensures
 
 pub returns : goal.returns
-returns c = let q = c.loop-x.invariant in record { made = filling_end q c.loop-x-test.false; fits = q.fits; before = q.kept }
+returns c = let q = c.loop-x.invariant in record { made = filling_end q c.loop-x-test.false; fits = q.fits; kept = q.kept }

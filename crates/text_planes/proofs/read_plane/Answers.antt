@@ -20,11 +20,14 @@ returns-in_err-count c =
     let p = err_from_is_err_and c.from_residual.result c.from_residual.ensures.1 in
     rw (p.1, p.2) (record { answer = no_regions _ _ _ _ _ _ _ c.in_err-count.ensures.answer; held = tt })
 
+pub invariant_of-rects : goal.invariant_of-rects
+invariant_of-rects c = omega (arith, (used (goal.at.invariant_of-rects c).In_ok-count).0, c.requires.four_each, c.read_regions.auto.rects)
+
 pub make_plane-requires : goal.make_plane-requires
 make_plane-requires c =
     let p = c.requires in
     let u = used (goal.at.make_plane-requires c).In_ok-count in
-    (u.0, omega (arith, u.0, p.four_each, c.read_regions.auto.rects), p.thin, p.plane)
+    (u.0, p.thin, p.plane)
 
 pub returns-in_err-rows : goal.returns-in_err-rows
 returns-in_err-rows c =

@@ -25,13 +25,15 @@ returns-in_err-count c =
     let p = err_from_is_err_and c.from_residual.result c.from_residual.ensures.1 in
     rw (p.1, p.2) (record { answer = not_counted (picture_of a.text) (picture_of a.thins) a.thins.width a.thins.height _ c.in_err-count.ensures; used = tt })
 
+pub invariant_of-found : goal.invariant_of-found
+invariant_of-found c = omega (arith, few (goal.at.invariant_of-found c).In_ok-count, c.regions.auto.rects, c.requires.four_each)
+
 pub gather-requires : goal.gather-requires
 gather-requires c =
     let a = c.args in
     let p = c.requires in
     let f = few (goal.at.gather-requires c).In_ok-count in
     record {
-      rects = omega (arith, c.regions.auto.rects, p.four_each);
       inside = rw (p.columns, p.rows) (regions-inside (picture_of a.thins) a.thins.width a.thins.height c.in_ok-count.count c.regions.new.rects (told (goal.at.gather-requires c).In_ok-count));
       bytes = p.all_texts;
       spans = omega (arith, p.two_each);

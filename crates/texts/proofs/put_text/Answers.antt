@@ -10,28 +10,28 @@ use Rattle.texts.specs.Spans.{PutAt}
 use Rattle.texts.proofs.TextPutting.{Joining, joining_of, joining_start, joining_part, joining_room, joining_past, joining_more, joining_end}
 use native.Mathlib.Omega.{arith}
 use Rattle.texts.proofs.put_text.Goals as goal
-use Rattle.texts.proofs.put_text.Goals.{After-rect_at-r, At-loop-y}
+use Rattle.texts.proofs.put_text.Goals.{After-at-r, At-loop-y}
 
-inside : (c : After-rect_at-r) → RectIn c.args.text.width c.args.text.height c.rect_at-r.result
-inside c = subst (RectIn c.args.text.width c.args.text.height) (sym c.rect_at-r.ensures) c.requires.1
+inside : (c : After-at-r) → RectIn c.args.text.width c.args.text.height c.at-r.result
+inside c = subst (RectIn c.args.text.width c.args.text.height) (sym c.at-r.ensures) c.requires.1
 
 pub overflow_add-from : goal.overflow_add-from
-overflow_add-from c = omega (arith, (inside (goal.at.overflow_add-from c).After-rect_at-r).wide)
+overflow_add-from c = omega (arith, (inside (goal.at.overflow_add-from c).After-at-r).wide)
 
 pub overflow_sub-to : goal.overflow_sub-to
-overflow_sub-to c = omega (arith, (inside (goal.at.overflow_sub-to c).After-rect_at-r).wide)
+overflow_sub-to c = omega (arith, (inside (goal.at.overflow_sub-to c).After-at-r).wide)
 
 pub overflow_sub-bottom : goal.overflow_sub-bottom
-overflow_sub-bottom c = omega (arith, (inside (goal.at.overflow_sub-bottom c).After-rect_at-r).tall)
+overflow_sub-bottom c = omega (arith, (inside (goal.at.overflow_sub-bottom c).After-at-r).tall)
 
 pub loop-y-init : goal.loop-y-init
 loop-y-init c =
     let p = c.requires in
-    joining_of c.rect_at-r.ensures (joining_start c.args.text.sized (inside (goal.at.loop-y-init c).After-rect_at-r) p.2 p.3)
+    joining_of c.at-r.ensures (joining_start c.args.text.sized (inside (goal.at.loop-y-init c).After-at-r) p.2 p.3)
 
 -- the invariant, of the rect that was read
-joining : (c : At-loop-y) → (let a = c.args in let r = c.rect_at-r.result in Joining a.text.width a.text.height a.text.codes.now r (r.bottom - 1) a.bytes.now a.start c.loop-y.bytes c.loop-y.y c.loop-y.at)
-joining c = joining_of (sym c.rect_at-r.ensures) c.loop-y.invariant
+joining : (c : At-loop-y) → (let a = c.args in let r = c.at-r.result in Joining a.text.width a.text.height a.text.codes.now r (r.bottom - 1) a.bytes.now a.start c.loop-y.bytes c.loop-y.y c.loop-y.at)
+joining c = joining_of (sym c.at-r.ensures) c.loop-y.invariant
 
 pub overflow_mul-y : goal.overflow_mul-y
 overflow_mul-y c = omega (arith, joining_part (joining (goal.at.overflow_mul-y c).At-loop-y) c.loop-y-test.true)
@@ -57,12 +57,12 @@ put_next-at-requires c =
 pub returns-then-at-gt-TEXT_BYTES : goal.returns-then-at-gt-TEXT_BYTES
 returns-then-at-gt-TEXT_BYTES c =
     let a = c.args in
-    subst (λ (q : Rect). PutAt (text_of (picture_of a.text) q) a.bytes.now c.put_next-at.new.bytes a.start (text_bytes + 1)) c.rect_at-r.ensures
+    subst (λ (q : Rect). PutAt (text_of (picture_of a.text) q) a.bytes.now c.put_next-at.new.bytes a.start (text_bytes + 1)) c.at-r.ensures
     (joining_past (joining (goal.at.returns-then-at-gt-TEXT_BYTES c).At-loop-y) c.loop-y-test.true c.trim_codes_part-part.ensures c.put_next-at.ensures c.if-at-gt-TEXT_BYTES.true)
 
 pub loop-y-preserved : goal.loop-y-preserved
 loop-y-preserved c =
-    joining_of c.rect_at-r.ensures
+    joining_of c.at-r.ensures
     (joining_more (joining (goal.at.loop-y-preserved c).At-loop-y) c.loop-y-test.true c.trim_codes_part-part.ensures c.put_next-at.ensures c.if-at-gt-TEXT_BYTES.false c.put_next-at.auto.bytes)
 
 pub returns : goal.returns

@@ -1,28 +1,32 @@
 -- `turning::remove_first_column` meets its contract.
 use mathlib.Core.Path.{sym, ◌∙◌}
-use Rattle.cells.proofs.PlaneLaws.{kept-fits}
-use Rattle.cells.proofs.FillLaws.{plane-start, plane-next, plane_end}
-use Rattle.turning.proofs.UprightLaws.{dropped}
 use native.Mathlib.Omega.{arith}
+use Rattle.cells.proofs.WriterLaws.{plane-begun, plane-more, plane-full}
+use Rattle.turning.proofs.UprightLaws.{dropped}
 use Rattle.turning.proofs.remove_first_column.Goals as goal
 
 pub loop-row-init : goal.loop-row-init
-loop-row-init c = (omega arith, plane-start _ _ c.requires)
+loop-row-init c = (omega arith, plane-begun _ _ c.requires)
 
 pub copy_row-count-requires : goal.copy_row-count-requires
-copy_row-count-requires c = (c.loop-row.invariant.1.fits.room, c.loop-row-test.true)
+copy_row-count-requires c =
+    let p = c.args.plane.fits in
+    (omega (arith, c.loop-row.invariant.1.rows, c.loop-row-test.true, p.rows), c.loop-row-test.true)
 
 pub end_row-requires : goal.end_row-requires
 end_row-requires c =
     let p = c.args.plane.fits in
-    let f = c.loop-row.invariant.1.fits in
-    (kept-fits _ _ _ c.copy_row-count.ensures.before c.copy_row-count.auto.out f, omega (arith, c.loop-row-test.true, p.rows), omega (arith, c.copy_row-count.ensures.count, p.cells _ c.loop-row-test.true))
+    let r = c.copy_row-count.ensures.kept.rows in (
+      omega (arith, r, c.loop-row.invariant.1.rows, c.loop-row-test.true, p.rows),
+      omega (arith, c.copy_row-count.ensures.count, p.cells _ c.loop-row-test.true),
+    )
 
 pub loop-row-preserved : goal.loop-row-preserved
 loop-row-preserved c =
-    (omega (arith, c.loop-row-test.true), plane-next _ _ _ _ _ _ _ c.loop-row.invariant.1 c.copy_row-count.auto.out c.copy_row-count.ensures.before c.copy_row-count.ensures.cells c.end_row.auto.plane c.end_row.ensures.rows c.end_row.ensures.fits)
+    (omega (arith, c.loop-row-test.true), plane-more c.loop-row.invariant.1 c.copy_row-count.ensures.kept c.copy_row-count.ensures.cells c.end_row.ensures)
 
 pub returns : goal.returns
 returns c =
-    let f = plane_end _ _ _ c.args.plane.rows _ c.loop-row.invariant.1 c.loop-row.invariant.0 c.loop-row-test.false in
-    record { rows = f.plane ∙ sym (dropped _ _); fits = f.fits }
+    let i = c.loop-row.invariant in
+    let f = plane-full i.1 c.args.plane.rows i.0 c.loop-row-test.false in
+    record { same = f.same; plane = f.plane ∙ sym (dropped _ _) }

@@ -2,12 +2,12 @@
 use mathlib.Core.Path.{sym, ap, ◌∙◌, subst}
 use Rattle.model.specs.Cells.{turned_cell, Small}
 use Rattle.model.proofs.CellLaws.{turned-small}
-use Rattle.cells.proofs.FillLaws.{row-start, row_next, row_end}
+use Rattle.cells.proofs.WriterLaws.{row-begun, row-more, row-full}
 use native.Mathlib.Omega.{arith}
 use Rattle.turning.proofs.turn_column.Goals as goal
 
 pub loop-i-init : goal.loop-i-init
-loop-i-init c = (omega arith, row-start _ _ _)
+loop-i-init c = (omega arith, row-begun _ _)
 
 pub cell-requires : goal.cell-requires
 cell-requires c = let f = c.args.plane.fits in (omega (arith, c.loop-i-test.true, f.rows), c.requires.1)
@@ -15,13 +15,13 @@ cell-requires c = let f = c.args.plane.fits in (omega (arith, c.loop-i-test.true
 pub put_cell-requires : goal.put_cell-requires
 put_cell-requires c =
     let f = c.args.plane.fits in
-    (c.requires.1, omega (arith, c.loop-i-test.true, f.rows), omega (arith, c.loop-i.invariant.1.same, c.requires.0), subst Small (sym c.turned.ensures) (turned-small c.cell.result c.cell.ensures.small))
+    (omega (arith, c.loop-i.invariant.1.kept.rows, c.requires.0), omega (arith, c.loop-i-test.true, f.rows), subst Small (sym c.turned.ensures) (turned-small c.cell.result c.cell.ensures.small))
 
 pub loop-i-preserved : goal.loop-i-preserved
 loop-i-preserved c =
-    (omega (arith, c.loop-i-test.true), row_next _ _ _ _ _ _ _ c.loop-i.invariant.1 (c.turned.ensures ∙ ap turned_cell c.cell.ensures.cell) c.put_cell.auto.plane c.put_cell.ensures.cells c.put_cell.ensures.before)
+    (omega (arith, c.loop-i-test.true), row-more c.loop-i.invariant.1 (c.turned.ensures ∙ ap turned_cell c.cell.ensures.cell) c.put_cell.ensures.cells c.put_cell.ensures.kept)
 
 pub returns : goal.returns
 returns c =
-    let f = row_end _ _ _ _ c.args.plane.rows _ c.loop-i.invariant.1 c.loop-i.invariant.0 c.loop-i-test.false in
-    record { cells = f.cells; before = f.before }
+    let f = row-full c.loop-i.invariant.1 c.args.plane.rows c.loop-i.invariant.0 c.loop-i-test.false in
+    record { cells = f.cells; kept = f.kept }
