@@ -3,18 +3,18 @@ use Rattle.std.specs.Prelude.{Ok, Err, Option, None, Some}
 use mathlib.Core.Path.{◌≡◌, refl, sym, ap, ◌∙◌, subst}
 use mathlib.Core.Bool.{Bool, true, false, ◌&&◌}
 use mathlib.Core.List.{List, [], ◌∷◌, ◌++◌, append_assoc}
-use Prim.Native.Nat.{ℕ, zero, suc, ◌+◌, ◌-◌, ◌≤◌, ◌<◌}
-use native.Mathlib.Nat.{sub-zero, zero-add, add-zero}
+use Prim.Native.Nat.{ℕ, zero, suc, ◌+◌, ◌≤◌, ◌<◌}
+use native.Mathlib.Nat.{zero-add, add-zero}
 use native.Mathlib.Numerals.{add-one}
 use native.Mathlib.Omega.{arith}
 use lib.Dec.{ltb, leb}
-use lib.ListN.{length, get_or, set, take, drop}
-use lib.Seq.{drop-cons, set-append_seam, take_at, get_or-take}
+use lib.ListN.{length, get_or, set, take, drop, drop_of_length-le}
+use lib.Seq.{drop-cons, set-append_seam, take_at}
 use borrow.Author.Tests.{lt-ltb, le-ltb, ltb-true, ltb-false, leb-true}
 use Rattle.lists.specs.Choose.{choose}
 use Rattle.lists.specs.Run.{run}
 use Rattle.lists.proofs.AnswerLaws.{refused-ok}
-use Rattle.lists.proofs.RunLaws.{length_run, build-next, get_or-build}
+use Rattle.lists.proofs.RunLaws.{length_run, build-next}
 use Rattle.lists.proofs.Tests.{by_flag, both}
 use Rattle.model.specs.Geometry.{contains_of}
 use Rattle.model.specs.Refusals.{Reading}
@@ -70,43 +70,39 @@ pub number-few : (rs : List Rect) (o : Option Rect) → number_in rs o ≤ lengt
 number-few rs None = omega arith
 number-few rs (Some f) = first-few rs f
 
--- the search among the first n of a run has come to rect i
-pub record Searching (f : Rect) (l : List Rect) (n i : ℕ) : Type 0 where
-  pub along : i ≤ n
-  pub same : i + first_of (take (n - i) (drop i l)) f ≡ first_of (take n l) f
+-- the search has come to rect i
+pub record Searching (f : Rect) (l : List Rect) (i : ℕ) : Type 0 where
+  pub along : i ≤ length l
+  pub same : i + first_of (drop i l) f ≡ first_of l f
 
-module _ {f : Rect} {l : List Rect} {n i : ℕ} (q : Searching f l n i) where
-  module _ (h : i < n) (g : n ≤ length l) where
-    turn : first_of (take (n - i) (drop i l)) f ≡ choose (contains_of (get_or l i none) f) 0 (suc (first_of (take (n - (i + 1)) (drop (i + 1) l)) f))
+module _ {f : Rect} {l : List Rect} {i : ℕ} (q : Searching f l i) where
+  module _ (h : i < length l) where
+    turn : first_of (drop i l) f ≡ choose (contains_of (get_or l i none) f) 0 (suc (first_of (drop (i + 1) l) f))
     unfolding first_of
-    turn =
-        let z : n - i ≡ suc (n - (i + 1)) = omega arith in
-        let d : drop i l ≡ get_or l i none ∷ drop (suc i) l = drop-cons l i none (omega arith) in
-        rw (z, d, add-one i)
+    turn = rw (drop-cons l i none h, add-one i)
 
-    pub searching_found : contains_of (get_or l i none) f ≡ true → i ≡ first_of (take n l) f
+    pub searching_found : contains_of (get_or l i none) f ≡ true → i ≡ first_of l f
     searching_found e =
-        let z : first_of (take (n - i) (drop i l)) f ≡ 0 = turn ∙ rw e in
+        let z : first_of (drop i l) f ≡ 0 = turn ∙ rw e in
         omega (arith, z, q.same)
 
-    pub searching_more : contains_of (get_or l i none) f ≡ false → Searching f l n (i + 1)
+    pub searching_more : contains_of (get_or l i none) f ≡ false → Searching f l (i + 1)
     searching_more e =
-        let z : first_of (take (n - i) (drop i l)) f ≡ suc (first_of (take (n - (i + 1)) (drop (i + 1) l)) f) = turn ∙ rw e in
+        let z : first_of (drop i l) f ≡ suc (first_of (drop (i + 1) l) f) = turn ∙ rw e in
         record { along = omega arith; same = omega (arith, z, q.same) }
 
-  pub searching_end : n ≤ i → n ≡ first_of (take n l) f
+  pub searching_end : length l ≤ i → length l ≡ first_of l f
   unfolding first_of
   searching_end h =
-      let z : n - i ≡ 0 = omega arith in
-      let e : i + 0 ≡ first_of (take n l) f = rw z at q.same in
+      let e : i + 0 ≡ first_of l f = rw (drop_of_length-le l h) at q.same in
       omega (arith, e, q.along)
 
 -- it may start behind rects that do not contain the frame
-pub searching_start : (f : Rect) (l : List Rect) (n i : ℕ) → i ≤ n → n ≤ length l → Without l i f → Searching f l n i
-searching_start f l n zero h g a = record { along = omega arith; same = rw (sub-zero n, zero-add (first_of (take n l) f)) }
-searching_start f l n (suc i) h g a =
-    subst (Searching f l n) (add-one i)
-    (searching_more (searching_start f l n i (omega arith) g (λ j b. a j (omega arith))) (omega arith) g (a i (omega arith)))
+pub searching_start : (f : Rect) (l : List Rect) (i : ℕ) → i ≤ length l → Without l i f → Searching f l i
+searching_start f l zero h a = record { along = omega arith; same = zero-add (first_of l f) }
+searching_start f l (suc i) h a =
+    subst (Searching f l) (add-one i)
+    (searching_more (searching_start f l i (omega arith) (λ j b. a j (omega arith))) (omega arith) (a i (omega arith)))
 
 -- a rect that ends at or above a row contains no frame that ends below it
 above_apart : (r f : Rect) (row : ℕ) → r.bottom ≤ row → row < f.bottom → contains_of r f ≡ false
@@ -117,16 +113,18 @@ above_apart r f row a b =
     absurd (omega (arith, leb-true f.bottom r.bottom (both (leb f.right r.right) (leb f.bottom r.bottom) p.1).1)))
     (λ n. n)
 
-pub without_above : (l : List Rect) (d : List ℕ) (n i row : ℕ) (f : Rect) → take n l ≡ rects_of d n → i ≤ n → Above d i row → row < f.bottom → Without l i f
-without_above l d n i row f e few a b j h =
-    let z : rect_at d j ≡ get_or l j none =
-    sym (get_or-build n (rect_at d) j none (omega arith)) ∙ ap (λ (t : List Rect). get_or t j none) (sym e) ∙ get_or-take n l j none (omega arith) in
-    subst (λ (r : Rect). contains_of r f ≡ false) z (above_apart (rect_at d j) f row (a j h) b)
+-- one rect more ends at or above a row
+pub above-next : (l : List Rect) (n row : ℕ) → Above l n row → (get_or l n none).bottom ≤ row → Above l (n + 1) row
+above-next l n row a b j h =
+    by_flag (ltb j n)
+    (λ y. a j (ltb-true j n y))
+    (λ m.
+    let z : j ≡ n = omega (arith, ltb-false j n m) in
+    subst (λ (k : ℕ). (get_or l k none).bottom ≤ row) (sym z) b)
 
--- the same of a frame that there may be
-pub without_any : (l : List Rect) (d : List ℕ) (n i row : ℕ) (o : Option Rect) → take n l ≡ rects_of d n → i ≤ n → Above d i row → ((f : Rect) → o ≡ Some f → row < f.bottom) → WithoutAny l i o
-without_any l d n i row None e few a b = tt
-without_any l d n i row (Some f) e few a b = without_above l d n i row f e few a (b f refl)
+pub without_above : (l : List Rect) (i row : ℕ) (o : Option Rect) → Above l i row → ((f : Rect) → o ≡ Some f → row < f.bottom) → WithoutAny l i o
+without_above l i row None a b = tt
+without_above l i row (Some f) a b = λ j h. above_apart (get_or l j none) f row (a j h) (b f refl)
 
 -- a run whose first i rects are those of a slice of numbers
 abbrev pub filled : List Rect → List ℕ → ℕ → List Rect

@@ -12,21 +12,21 @@ use borrow.Author.Tests.{ltb-true, ltb-false}
 use Rattle.lists.specs.Picture.{canvas, at}
 use Rattle.lists.proofs.PlaceLaws.{columns, at-canvas}
 use Rattle.lists.proofs.Tests.{by_flag, true_false}
-use Rattle.rects.specs.Rects.{rects_of}
+use Rattle.model.specs.declared.Rect.{Rect}
 use Rattle.regions.specs.Regions.{Finder, is_corner}
 use Rattle.lookup.specs.Lookup.{number_of, Numbered}
 use Rattle.lookup.specs.Numbers.{Above, number_in, Seen, Stored}
 use Rattle.lookup.specs.declared.Sought.{Sought}
 
--- the frames before place i are numbered, by the first n rects of a slice; those before `from` end at or above the row under it
-pub record Numbering (find : Finder) (nums : List ℕ) (n : ℕ) (d : List ℕ) (w h : ℕ) (start : List ℕ) (i from : ℕ) (found : List ℕ) : Type 0 where
+-- the frames before place i are numbered, by some rects; those before `from` end at or above the row under it
+pub record Numbering (find : Finder) (rs : List Rect) (d : List ℕ) (w h : ℕ) (start : List ℕ) (i from : ℕ) (found : List ℕ) : Type 0 where
   pub along : i ≤ h * w
   pub long : length found ≡ length start
-  pub numbers : Numbered find (rects_of nums n) (canvas w h d) w i found
-  pub few : from ≤ n
-  pub above : Above nums from (i / w + 1)
+  pub numbers : Numbered find rs (canvas w h d) w i found
+  pub few : from ≤ length rs
+  pub above : Above rs from (i / w + 1)
 
-module _ {find : Finder} {nums : List ℕ} {n : ℕ} {d : List ℕ} {w h : ℕ} {start : List ℕ} {i from : ℕ} {found : List ℕ} (q : Numbering find nums n d w h start i from found) (less : i < h * w) (room : h * w ≤ length start)
+module _ {find : Finder} {rs : List Rect} {d : List ℕ} {w h : ℕ} {start : List ℕ} {i from : ℕ} {found : List ℕ} (q : Numbering find rs d w h start i from found) (less : i < h * w) (room : h * w ≤ length start)
     {s : Sought} (v : Seen find d w (h * w) i s) where
   -- a corner before the next one stands before place i
   before : (j : ℕ) → j < s.at → is_corner (at (canvas w h d) w j) ≡ true → j < i
@@ -40,14 +40,14 @@ module _ {find : Finder} {nums : List ℕ} {n : ℕ} {d : List ℕ} {w h : ℕ} 
       let z : a / w ≤ b / w = (le-div_iff_mul-le (columns w h i less)).1 (le_trans (div-mul-le_self a w) l) in
       omega arith
 
-  module _ (to : ℕ) (few : to ≤ n) (above : Above nums to s.under) (k : ℕ) (ke : k ≡ number_in (rects_of nums n) s.frame) (out : List ℕ) (next : ℕ) (t : Stored s.at k (h * w) found out next) where
-    above_on : s.at ≤ next → Above nums to (next / w + 1)
+  module _ (to : ℕ) (few : to ≤ length rs) (above : Above rs to s.under) (k : ℕ) (ke : k ≡ number_in rs s.frame) (out : List ℕ) (next : ℕ) (t : Stored s.at k (h * w) found out next) where
+    above_on : s.at ≤ next → Above rs to (next / w + 1)
     above_on l j b = le_trans (above j b) (rw v.under (row_on s.at next l))
 
-    number : s.at < h * w → k ≡ number_of find (rects_of nums n) (s.at % w) (s.at / w)
-    number l = ke ∙ v.frame l (rects_of nums n)
+    number : s.at < h * w → k ≡ number_of find rs (s.at % w) (s.at / w)
+    number l = ke ∙ v.frame l rs
 
-    stored : s.at < h * w → Numbered find (rects_of nums n) (canvas w h d) w (s.at + 1) (set found s.at k)
+    stored : s.at < h * w → Numbered find rs (canvas w h d) w (s.at + 1) (set found s.at k)
     stored l j b e =
         by_flag (ltb j s.at)
         (λ y.
@@ -55,10 +55,10 @@ module _ {find : Finder} {nums : List ℕ} {n : ℕ} {d : List ℕ} {w h : ℕ} 
         get_or-set_other found s.at j k 0 (λ z. absurd (omega arith)) ∙ q.numbers j (before j a e) e)
         (λ m.
         let z : s.at ≡ j = omega (arith, ltb-false j s.at m) in
-        subst (λ (c : ℕ). get_or (set found s.at k) c 0 ≡ number_of find (rects_of nums n) (c % w) (c / w)) z
+        subst (λ (c : ℕ). get_or (set found s.at k) c 0 ≡ number_of find rs (c % w) (c / w)) z
         (get_or-set_same found s.at k 0 (omega (arith, q.long)) ∙ number l))
 
-    pub numbering_next : length out ≡ length found → (i < next) × Numbering find nums n d w h start next to out
+    pub numbering_next : length out ≡ length found → (i < next) × Numbering find rs d w h start next to out
     numbering_next len =
         by_flag (ltb s.at (h * w))
         (λ y.

@@ -2,7 +2,6 @@
 use Rattle.std.specs.Prelude.{false, List, ◌≡◌, ℕ, ◌+◌, ◌/◌, ◌%◌, ◌≤◌, ◌<◌, length, get_or, set, Option, None, Some}
 use Rattle.model.specs.Geometry.{contains_of}
 use Rattle.model.specs.declared.Rect.{Rect}
-use Rattle.rects.specs.Rects.{rect_at}
 use Rattle.regions.specs.Corners.{corner_in, NextCorner}
 use Rattle.regions.specs.Regions.{Finder}
 use Rattle.lookup.specs.Lookup.{first_of, number_of}
@@ -12,9 +11,9 @@ use Rattle.lookup.specs.declared.Sought.{Sought}
 abbrev pub none : Rect
 none = record { left = 0; top = 0; right = 0; bottom = 0 }
 
--- the first n rects of a slice of numbers end at or above a row
-abbrev pub Above : List ℕ → ℕ → ℕ → Type 0
-Above d n row = (j : ℕ) → j < n → (rect_at d j).bottom ≤ row
+-- the first n rects end at or above a row
+abbrev pub Above : List Rect → ℕ → ℕ → Type 0
+Above rs n row = (j : ℕ) → j < n → (get_or rs j none).bottom ≤ row
 
 -- none of the first n rects contains a frame
 abbrev pub Without : List Rect → ℕ → Rect → Type 0

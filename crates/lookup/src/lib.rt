@@ -2,7 +2,7 @@
 // The slice of the rects is lent by the caller, in C too: its numbers and its size are fixed.
 #![tactic(auto)]
 
-ghost use Rattle.std.specs.Prelude.{◌≡◌, ◌++◌, ◌+◌, ◌*◌, ◌<◌, ◌≤◌, ◌^◌, length, take, drop};
+ghost use Rattle.std.specs.Prelude.{◌≡◌, ◌++◌, ◌+◌, ◌*◌, ◌<◌, ◌≤◌, ◌^◌, length, drop};
 ghost use Rattle.model.specs.Layers.{picture_of};
 ghost use Rattle.model.specs.Limits.{region_count};
 ghost use Rattle.rects.specs.Rects.{rects_in};
@@ -27,31 +27,31 @@ fn fill(run: &mut [Rect], rects: Rects)
 }
 
 // The first rect from `from` on that ends below a row, or how many there are.
-fn live(rects: Rects, from: usize, row: usize) -> usize
-    requires { (from ≤ rects.count) × Above rects.numbers.now from row }
-    ensures { (from ≤ result) × (result ≤ rects.entry.count) × Above rects.entry.numbers.now result row }
+fn live(run: &[Rect], from: usize, row: usize) -> usize
+    requires { (from ≤ length run.now) × Above run.now from row }
+    ensures { (from ≤ result) × (result ≤ length run.now) × Above run.now result row }
 {
-    for at in from..rects.count {
-        let r = rects.at(at);
+    for at in from..run.len() {
+        let r = run[at];
         if row < r.bottom {
             return at;
         }
     }
-    rects.count
+    run.len()
 }
 
-// The number of the first of `count` rects that contains a frame, or `count`. None before `from` does.
-fn first_containing(rects: &[Rect], from: usize, count: usize, frame: Rect) -> usize
-    requires { (from ≤ count) × (count ≤ length rects.now) × Without rects.now from frame }
-    ensures { result ≡ first_of (take count rects.now) frame }
+// The number of the first rect that contains a frame, or how many there are. None before `from` does.
+fn first_containing(run: &[Rect], from: usize, frame: Rect) -> usize
+    requires { (from ≤ length run.now) × Without run.now from frame }
+    ensures { result ≡ first_of run.now frame }
 {
-    for i in from..count {
-        let r = rects[i];
+    for i in from..run.len() {
+        let r = run[i];
         if r.contains(frame) {
             return i;
         }
     }
-    count
+    run.len()
 }
 
 // A corner of GRID, the row under it, and the frame that starts there, if one does.
@@ -86,14 +86,14 @@ fn seek(layer: Layer, i: usize) -> Sought
     Sought { at, under, frame }
 }
 
-// The number of a frame: that of the first of `count` rects that contains it. Where there is no frame or none contains it, `count`.
-fn number_in(rects: &[Rect], from: usize, count: usize, frame: Option<Rect>) -> usize
-    requires { (from ≤ count) × (count ≤ length rects.now) × WithoutAny rects.now from frame }
-    ensures { result ≡ number_in (take count rects.now) frame }
+// The number of a frame: that of the first rect that contains it. Where there is no frame or none contains it, how many there are.
+fn number_in(run: &[Rect], from: usize, frame: Option<Rect>) -> usize
+    requires { (from ≤ length run.now) × WithoutAny run.now from frame }
+    ensures { result ≡ number_in run.now frame }
 {
     match frame {
-        Some(f) => first_containing(rects, from, count, f),
-        None => count,
+        Some(f) => first_containing(run, from, f),
+        None => run.len(),
     }
 }
 
@@ -114,21 +114,22 @@ pub fn number_frames(layer: Layer, rects: Rects, found: &mut [u32])
     requires { (rects.count ≤ region_count) × (layer.height * layer.width ≤ length found.old) }
     ensures { Numbered (frame_of grid (picture_of layer.entry) layer.entry.width layer.entry.height) (rects_in rects.entry) (picture_of layer.entry) layer.entry.width (layer.entry.height * layer.entry.width) found.new }
 {
-    let mut run = [Rect {
+    let mut room = [Rect {
         left: 0,
         top: 0,
         right: 0,
         bottom: 0,
     }; REGIONS];
-    fill(&mut run, rects);
+    fill(&mut room, rects);
+    let run = &room[..rects.count];
     let size = layer.height * layer.width;
     let mut i: usize = 0;
     let mut from: usize = 0;
     // No `for`: each turn goes on behind the next corner.
     while i < size {
         let s = seek(layer, i);
-        from = live(rects, from, s.under);
-        let k = number_in(&run, from, rects.count, s.frame);
+        from = live(run, from, s.under);
+        let k = number_in(run, from, s.frame);
         i = put_number(found, s.at, k, size);
     }
 }

@@ -4,13 +4,13 @@ use Rattle.lookup.proofs.FirstLaws.{searching_start, searching_found, searching_
 use Rattle.lookup.proofs.first_containing.Goals as goal
 
 pub loop-i-init : goal.loop-i-init
-loop-i-init c = searching_start _ _ _ _ c.requires.0 c.requires.1 c.requires.2
+loop-i-init c = searching_start _ _ _ c.requires.0 c.requires.1
 
 pub returns-then-contains : goal.returns-then-contains
-returns-then-contains c = searching_found c.loop-i.invariant c.loop-i-test.true c.requires.1 (sym c.contains.ensures ∙ c.if-contains.true)
+returns-then-contains c = searching_found c.loop-i.invariant c.loop-i-test.true (sym c.contains.ensures ∙ c.if-contains.true)
 
 pub loop-i-preserved : goal.loop-i-preserved
-loop-i-preserved c = searching_more c.loop-i.invariant c.loop-i-test.true c.requires.1 (sym c.contains.ensures ∙ c.if-contains.false)
+loop-i-preserved c = searching_more c.loop-i.invariant c.loop-i-test.true (sym c.contains.ensures ∙ c.if-contains.false)
 
 pub returns : goal.returns
 returns c = searching_end c.loop-i.invariant c.loop-i-test.false

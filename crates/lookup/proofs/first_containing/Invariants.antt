@@ -3,4 +3,4 @@ use Rattle.lookup.proofs.FirstLaws.{Searching}
 use Rattle.lookup.proofs.first_containing.Given as goal
 
 abbrev pub invariant-loop-i : goal.invariant-loop-i
-invariant-loop-i l = Searching l.frame l.rects l.count l.i
+invariant-loop-i l = Searching l.frame l.run l.i
