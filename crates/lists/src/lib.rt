@@ -5,7 +5,7 @@
 ghost use Rattle.std.specs.Prelude.{◌≡◌, ◌+◌, ◌≤◌, length, replicate};
 ghost use Rattle.lists.specs.Put.{put};
 
-// Every element becomes x.
+// Every element becomes x. The library's `fill` clones, and nothing tells of a T that is Copy that its clone is the same.
 pub fn fill<T: Copy>(s: &mut [T], x: T)
     ensures { s.new ≡ replicate (length s.old) x }
 {
