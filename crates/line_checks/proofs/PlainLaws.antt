@@ -11,7 +11,7 @@ use Rattle.lists.proofs.Parts.{at_cons}
 use Rattle.lists.proofs.Tests.{by_flag, both}
 use Rattle.utf8.specs.Utf8.{decode, codes, check, encode}
 use Rattle.utf8.specs.declared.Decoded.TheVariants.{Char}
-use Rattle.utf8.proofs.Utf8Laws.{decode-at, row1, check-at, codes_at_lem, encode1}
+use Rattle.utf8.proofs.Utf8Laws.{decode_ascii, check-at, codes_at_lem, encode1}
 use Rattle.utf8.proofs.Inverse.{decode-size, encode-decode}
 use Rattle.white_space.specs.Lines.{after}
 use Rattle.line_checks.specs.LineEnds.{Plain}
@@ -44,7 +44,7 @@ keeps F (suc n) at h =
 
 module _ {s : List ℕ} {at to : ℕ} (l : at ≤ to) (m : to ≤ length s) (h : Plain s at to) where
   char : (p : ℕ) → at ≤ p → p < to → decode (drop p s) ≡ Char (get_or s p 0) 1
-  char p a b = decode-at s p (omega arith) ∙ row1 (get_or s p 0) (drop (p + 1) s) (h.bytes p a b).1
+  char p a b = decode_ascii s p (omega arith) (h.bytes p a b).1
 
   over : {A : Type 0} (F : ℕ → A) → ((p : ℕ) → at ≤ p → p < to → F p ≡ F (p + 1)) → F at ≡ F to
   over F k =
@@ -63,7 +63,7 @@ module _ {s : List ℕ} {at to : ℕ} (l : at ≤ to) (m : to ≤ length s) (h :
 -- a line feed is told by its byte
 module _ (s : List ℕ) (p : ℕ) (h : p < length s) where
   pub feed_here : get_or s p 0 ≡ 0x0A → decode (drop p s) ≡ Char 0x0A 1
-  feed_here e = decode-at s p h ∙ row1 (get_or s p 0) (drop (p + 1) s) (omega arith) ∙ rw e
+  feed_here e = decode_ascii s p h (omega arith) ∙ rw e
 
   pub no_feed_here : (get_or s p 0 ≡ 0x0A → ⊥) → {c n : ℕ} → decode (drop p s) ≡ Char c n → c ≡ 0x0A → ⊥
   no_feed_here f {c} {n} e q =

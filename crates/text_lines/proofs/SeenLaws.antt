@@ -14,7 +14,7 @@ use Rattle.utf8.specs.Utf8.{more, tail, decode, codes}
 use Rattle.utf8.specs.Passed.{code_of, bytes_of}
 use Rattle.utf8.specs.declared.Decoded.{Decoded}
 use Rattle.utf8.specs.declared.Decoded.TheVariants.{Char, IllFormed, End}
-use Rattle.utf8.proofs.Utf8Laws.{decode-at, row1, row4, more_in, codes_char, codes_bad, codes-none, encode1}
+use Rattle.utf8.proofs.Utf8Laws.{decode_row, decode_ascii, more_in, codes_char, codes_bad, codes-none, encode1}
 use Rattle.utf8.proofs.Inverse.{decode-size}
 use Rattle.white_space.specs.White.{among, white}
 use Rattle.white_space.specs.Lines.{first_of, line}
@@ -53,8 +53,7 @@ module _ (s : List ℕ) (at : ℕ) (h : at + 3 ≤ length s) where
   unfolding more
   char a b b' c c' =
       let two : at + 1 + 1 ≡ at + 2 = omega arith in
-      decode-at s at (omega arith)
-      ∙ row4 (get_or s at 0) (drop (at + 1) s) (omega (arith, a)) (omega (arith, a))
+      decode_row s at (omega arith) 3 refl (omega (arith, a))
       ∙ ap (λ (n : ℕ). more (tail ∷ tail ∷ []) (n - 0xE0) 1 (drop (at + 1) s)) a
       ∙ more_in 0x80 0xBF (tail ∷ []) 2 1 s (at + 1) (omega arith) (omega arith) (omega arith)
       ∙ ap (λ (n : ℕ). more (tail ∷ []) (2 * 64 + (get_or s (at + 1) 0 - 128)) 2 (drop n s)) two
@@ -72,7 +71,7 @@ module _ (s : List ℕ) (at : ℕ) (h : at + 3 ≤ length s) where
 -- ASCII
 module _ (s : List ℕ) (at : ℕ) (h : at < length s) (l : get_or s at 0 ≤ 0x7F) where
   pub ascii : seen_of (decode (drop at s)) ≡ seen_of (Char (get_or s at 0) 1)
-  ascii = ap seen_of (decode-at s at h ∙ row1 (get_or s at 0) (drop (at + 1) s) l)
+  ascii = ap seen_of (decode_ascii s at h l)
 
   pub graphic : 0x20 < get_or s at 0 → seen_of (decode (drop at s)) ≡ Text 1
   graphic p = ascii ∙ of_text (get_or s at 0) 1 (dark 0x21 0x7F (get_or s at 0) refl (omega arith) l)

@@ -17,7 +17,8 @@ use Rattle.lists.proofs.Tests.{by_flag}
 use Rattle.utf8.specs.declared.Decoded.{Decoded}
 use Rattle.utf8.specs.declared.Decoded.TheVariants.{Char, IllFormed, End}
 use Rattle.utf8.specs.Utf8.{Range, ◌–◌, in_range, tail, more, Row, table, by, decode, onward, check, checked, read, codes, encode, encodes}
-use Rattle.utf8.proofs.Utf8Laws.{in_range_of, in_range_lem, row1, row2, row3, row4, row5, row6, row7, row8, row9, decode-fits, check_char, codes_char, encode1, encode2, encode3, encode4}
+use Rattle.utf8.proofs.RowLaws.{Within, inside, by_row, by_ascii}
+use Rattle.utf8.proofs.Utf8Laws.{in_range_of, decode-fits, check_char, codes_char, encode1, encode2, encode3, encode4}
 
 -- a Unicode scalar value (the standard's definition D76): a code point that is no surrogate
 abbrev pub Scalar : ℕ → Type 0
@@ -40,10 +41,6 @@ module _ (c : ℕ) where
   pub three_digits : c / 262144 ≡ c / 64 / 64 / 64
   three_digits = sym (div-div-eq-div-mul c 4096 64) ∙ ap (λ (x : ℕ). x / 64) two_digits
 
--- a number is in a range
-abbrev Within : Range → ℕ → Type 0
-Within (lo – hi) b = (lo ≤ b) × (b ≤ hi)
-
 -- one digit more, of a byte that follows
 abbrev next : ℕ → ℕ → ℕ
 next x b = x * 64 + (b - 0x80)
@@ -63,14 +60,14 @@ digit : (lo hi : ℕ) (rs : List Range) (code n c : ℕ) (s : List ℕ) → code
 unfolding more
 digit lo hi rs code n c s e w =
     let f : next code (0x80 + c % 64) ≡ c = omega arith in
-    rw (in_range_lem lo hi (0x80 + c % 64) w.0 w.1, f)
+    rw (inside (lo – hi) (0x80 + c % 64) w, f)
 
 tail_digit : (rs : List Range) (code n c : ℕ) (s : List ℕ) → code ≡ c / 64 → more (tail ∷ rs) code n ((0x80 + c % 64) ∷ s) ≡ more rs c (n + 1) s
 tail_digit rs code n c s e = digit 0x80 0xBF rs code n c s e (omega arith)
 
--- a byte in f to l is of the row with that mark and those ranges
-abbrev RowOf : ℕ → ℕ → ℕ → List Range → Type 0
-RowOf f l mark rest = (a : ℕ) (s : List ℕ) → f ≤ a → a ≤ l → by table a s ≡ more rest (a - mark) 1 s
+-- the row at place k of the table has the first bytes f to l, that mark and those ranges
+abbrev RowAt : ℕ → ℕ → ℕ → ℕ → List Range → List Row → Type 0
+RowAt k f l mark rest rs = drop k table ≡ record { first = f – l; mark = mark; rest = rest } ∷ rs
 
 module _ (c : ℕ) (s : List ℕ) where
   abbrev Back : Type 0
@@ -78,38 +75,38 @@ module _ (c : ℕ) (s : List ℕ) where
 
   back1 : c ≤ 0x7F → Back
   unfolding decode
-  back1 h = rw (encode1 c h) (row1 c s h)
+  back1 h = rw (encode1 c h) (by_ascii c s h)
 
   back2 : 0x7F < c → c ≤ 0x7FF → Back
   unfolding decode more
   back2 h k =
       rw (encode2 c h k)
-      (row2 (0xC0 + c / 64) ((0x80 + c % 64) ∷ s) (omega arith) (omega arith) ∙ tail_digit [] (0xC0 + c / 64 - 0xC0) 1 c s (omega arith))
+      (by_row 1 refl (0xC0 + c / 64) ((0x80 + c % 64) ∷ s) (omega arith) ∙ tail_digit [] (0xC0 + c / 64 - 0xC0) 1 c s (omega arith))
 
   -- a row of three bytes
-  back3 : (f l lo hi : ℕ) → RowOf f l 0xE0 ((lo – hi) ∷ tail ∷ []) → 0x7FF < c → c ≤ 0xFFFF
+  back3 : {f l lo hi : ℕ} {rs : List Row} (k : ℕ) → RowAt k f l 0xE0 ((lo – hi) ∷ tail ∷ []) rs → 0x7FF < c → c ≤ 0xFFFF
       → Within (f – l) (0xE0 + c / 4096) → Within (lo – hi) (0x80 + c / 64 % 64) → Back
   unfolding decode more
-  back3 f l lo hi row h k p w =
+  back3 {lo = lo} {hi = hi} k row h j p w =
       let d = two_digits c in
       let a = 0xE0 + c / 4096 in
       let t = (0x80 + c % 64) ∷ s in
-      rw (encode3 c h k)
-      (row a ((0x80 + c / 64 % 64) ∷ t) p.0 p.1
+      rw (encode3 c h j)
+      (by_row k row a ((0x80 + c / 64 % 64) ∷ t) p
       ∙ digit lo hi (tail ∷ []) (a - 0xE0) 1 (c / 64) t (omega arith) w
       ∙ tail_digit [] (c / 64) 2 c s refl)
 
   -- a row of four bytes
-  back4 : (f l lo hi : ℕ) → RowOf f l 0xF0 ((lo – hi) ∷ tail ∷ tail ∷ []) → 0xFFFF < c → c < 0x110000
+  back4 : {f l lo hi : ℕ} {rs : List Row} (k : ℕ) → RowAt k f l 0xF0 ((lo – hi) ∷ tail ∷ tail ∷ []) rs → 0xFFFF < c → c < 0x110000
       → Within (f – l) (0xF0 + c / 262144 % 8) → Within (lo – hi) (0x80 + c / 4096 % 64) → Back
   unfolding decode more
-  back4 f l lo hi row h k p w =
+  back4 {lo = lo} {hi = hi} k row h j p w =
       let a = 0xF0 + c / 262144 % 8 in
       let t = (0x80 + c % 64) ∷ s in
       let u = (0x80 + c / 64 % 64) ∷ t in
       let d : a - 0xF0 ≡ c / 4096 / 64 = omega (arith, div-div-eq-div-mul c 4096 64) in
       rw (encode4 c h)
-      (row a ((0x80 + c / 4096 % 64) ∷ u) p.0 p.1
+      (by_row k row a ((0x80 + c / 4096 % 64) ∷ u) p
       ∙ digit lo hi (tail ∷ tail ∷ []) (a - 0xF0) 1 (c / 4096) u d w
       ∙ tail_digit (tail ∷ []) (c / 4096) 2 (c / 64) t (two_digits c)
       ∙ tail_digit [] (c / 64) 3 c s refl)
@@ -117,20 +114,20 @@ module _ (c : ℕ) (s : List ℕ) where
   back_low : 0x7FF < c → c < 0xD800 → Back
   back_low h k =
       split c 0xFFF
-      (λ p. back3 0xE0 0xE0 0xA0 0xBF row3 h (omega arith) (omega arith) (omega arith))
+      (λ p. back3 2 refl h (omega arith) (omega arith) (omega arith))
       (λ p. split c 0xCFFF
-      (λ q. back3 0xE1 0xEC 0x80 0xBF row4 h (omega arith) (omega arith) (omega arith))
-      (λ q. back3 0xED 0xED 0x80 0x9F row5 h (omega arith) (omega arith) (omega arith)))
+      (λ q. back3 3 refl h (omega arith) (omega arith) (omega arith))
+      (λ q. back3 4 refl h (omega arith) (omega arith) (omega arith)))
 
   back_high : 0xE000 ≤ c → c < 0x110000 → Back
   back_high h k =
       split c 0xFFFF
-      (λ p. back3 0xEE 0xEF 0x80 0xBF row6 (omega arith) p (omega arith) (omega arith))
+      (λ p. back3 5 refl (omega arith) p (omega arith) (omega arith))
       (λ p. split c 0x3FFFF
-      (λ q. back4 0xF0 0xF0 0x90 0xBF row7 p k (omega arith) (omega arith))
+      (λ q. back4 6 refl p k (omega arith) (omega arith))
       (λ q. split c 0xFFFFF
-      (λ r. back4 0xF1 0xF3 0x80 0xBF row8 p k (omega arith) (omega arith))
-      (λ r. back4 0xF4 0xF4 0x80 0x8F row9 p k (omega arith) (omega arith))))
+      (λ r. back4 7 refl p k (omega arith) (omega arith))
+      (λ r. back4 8 refl p k (omega arith) (omega arith))))
 
 -- decoding what encode wrote, with any bytes behind it, gives the code point
 pub decode-encode : (c : ℕ) (s : List ℕ) → Scalar c → decode (encode c ++ s) ≡ Char c (length (encode c))
@@ -220,11 +217,11 @@ above_16_bits : (x d g : ℕ) → 0x10 ≤ x → x < 0x110 → Within tail d →
 above_16_bits x d g h k w v = inr (omega arith)
 
 -- the rows of three bytes: by the numbers of its ranges a row gives no less than 0x800, and no surrogate
-sound3 : (f l lo hi : ℕ) → (0xE0 ≤ f) × (l ≤ 0xEF) × (0x80 ≤ lo) × (hi ≤ 0xBF) × (0x20 ≤ next (f - 0xE0) lo)
+sound3 : {f l lo hi : ℕ} → (0xE0 ≤ f) × (l ≤ 0xEF) × (0x80 ≤ lo) × (hi ≤ 0xBF) × (0x20 ≤ next (f - 0xE0) lo)
     → (next (l - 0xE0) hi < 0x360) ⊎ (0x380 ≤ next (f - 0xE0) lo)
     → Sound (record { first = f – l; mark = 0xE0; rest = (lo – hi) ∷ tail ∷ [] })
 unfolding more
-sound3 f l lo hi k o a s c n h =
+sound3 {f} {l} {lo} {hi} k o a s c n h =
     let x = a - 0xE0 in
     let m : 0xE0 + x ≡ a = omega arith in
     more_cons (λ s. Reads (a ∷ s) c n) (lo – hi) (tail ∷ []) x 1 s c n λ b t w.
@@ -235,10 +232,10 @@ sound3 f l lo hi k o a s c n h =
     (no_surrogate (next (f - 0xE0) lo) (next x b) (next (l - 0xE0) hi) d j.0 j.1 (omega arith) v o))
 
 -- the rows of four bytes: a row gives no less than 0x10000, and less than 0x110000
-sound4 : (f l lo hi : ℕ) → (0xF0 ≤ f) × (l ≤ 0xF4) × (0x80 ≤ lo) × (hi ≤ 0xBF) × (0x10 ≤ next (f - 0xF0) lo) × (next (l - 0xF0) hi < 0x110)
+sound4 : {f l lo hi : ℕ} → (0xF0 ≤ f) × (l ≤ 0xF4) × (0x80 ≤ lo) × (hi ≤ 0xBF) × (0x10 ≤ next (f - 0xF0) lo) × (next (l - 0xF0) hi < 0x110)
     → Sound (record { first = f – l; mark = 0xF0; rest = (lo – hi) ∷ tail ∷ tail ∷ [] })
 unfolding more
-sound4 f l lo hi k a s c n h =
+sound4 {f} {l} {lo} {hi} k a s c n h =
     let x = a - 0xF0 in
     let m : 0xF0 + x ≡ a = omega arith in
     more_cons (λ s. Reads (a ∷ s) c n) (lo – hi) (tail ∷ tail ∷ []) x 1 s c n λ b t w.
@@ -259,13 +256,13 @@ all_sound : AllSound table
 all_sound =
     sound1
     also sound2
-    also sound3 0xE0 0xE0 0xA0 0xBF (omega arith) (inl (omega arith))
-    also sound3 0xE1 0xEC 0x80 0xBF (omega arith) (inl (omega arith))
-    also sound3 0xED 0xED 0x80 0x9F (omega arith) (inl (omega arith))
-    also sound3 0xEE 0xEF 0x80 0xBF (omega arith) (inr (omega arith))
-    also sound4 0xF0 0xF0 0x90 0xBF (omega arith)
-    also sound4 0xF1 0xF3 0x80 0xBF (omega arith)
-    also sound4 0xF4 0xF4 0x80 0x8F (omega arith)
+    also sound3 (omega arith) (inl (omega arith))
+    also sound3 (omega arith) (inl (omega arith))
+    also sound3 (omega arith) (inl (omega arith))
+    also sound3 (omega arith) (inr (omega arith))
+    also sound4 (omega arith)
+    also sound4 (omega arith)
+    also sound4 (omega arith)
     also none
 
 by_reads : (rs : List Row) → AllSound rs → (a : ℕ) (s : List ℕ) (c n : ℕ) → by rs a s ≡ Char c n → Reads (a ∷ s) c n

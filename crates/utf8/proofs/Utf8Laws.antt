@@ -1,11 +1,11 @@
--- Laws of UTF-8: rows of table 3-7, reading at a place of the bytes, and the bytes of a code point by its size.
+-- Laws of UTF-8: reading at a place of the bytes, and the bytes of a code point by its size.
 use Rattle.std.specs.Prelude.{Ok, Err}
 use mathlib.Core.Path.{◌≡◌, refl, ap, ◌∙◌}
-use mathlib.Core.Bool.{Bool, true, false, and-false}
+use mathlib.Core.Bool.{Bool, true, false}
 use mathlib.Core.List.{List, [], ◌∷◌}
 use Prim.Native.Nat.{ℕ, zero, suc, ◌+◌, ◌-◌, ◌*◌, ◌/◌, ◌%◌, ◌≤◌, ◌<◌}
 use native.Mathlib.Numerals.{sub-one}
-use native.Mathlib.Nat.{sub-zero, add-zero}
+use native.Mathlib.Nat.{add-zero}
 use native.Mathlib.Omega.{arith}
 use lib.ListN.{length, get_or, drop, drop_of_length-le, length-drop}
 use lib.Seq.{drop-drop}
@@ -16,17 +16,11 @@ use Rattle.utf8.specs.declared.Decoded.TheVariants.{Char, IllFormed, End}
 use Rattle.lists.specs.Choose.{choose}
 use Rattle.lists.proofs.Parts.{at_cons}
 use Rattle.lists.proofs.Tests.{both}
-use Rattle.utf8.specs.Utf8.{Range, ◌–◌, in_range, more, by, table, tail, decode, Row, check, read, codes, onward, encode}
+use Rattle.utf8.proofs.RowLaws.{highest, Within, inside, below, above, Ascending, by_row, by_gap, by_ascii}
+use Rattle.utf8.specs.Utf8.{Range, ◌–◌, in_range, more, by, table, decode, Row, check, read, codes, onward, encode}
 
-module _ (lo hi b : ℕ) where
-  pub in_range_lem : lo ≤ b → b ≤ hi → in_range (lo – hi) b ≡ true
-  in_range_lem p q = rw (le-leb lo b p, le-leb b hi q)
-
-  pub below : b < lo → in_range (lo – hi) b ≡ false
-  below p = rw (lt-leb lo b p)
-
-  pub above : hi < b → in_range (lo – hi) b ≡ false
-  above p = rw (lt-leb b hi p) (and-false (leb lo b))
+pub in_range_lem : (lo hi b : ℕ) → lo ≤ b → b ≤ hi → in_range (lo – hi) b ≡ true
+in_range_lem lo hi b p q = inside (lo – hi) b (p, q)
 
 module _ (lo hi : ℕ) (rs : List Range) (code n : ℕ) (s : List ℕ) (at : ℕ) where
   pub more_end : length s ≤ at → more ((lo – hi) ∷ rs) code n (drop at s) ≡ IllFormed
@@ -35,98 +29,16 @@ module _ (lo hi : ℕ) (rs : List Range) (code n : ℕ) (s : List ℕ) (at : ℕ
 
   pub more_below : at < length s → get_or s at 0 < lo → more ((lo – hi) ∷ rs) code n (drop at s) ≡ IllFormed
   unfolding more
-  more_below h b = rw (at_cons s at 0 h, below lo hi (get_or s at 0) b)
+  more_below h b = rw (at_cons s at 0 h, below (lo – hi) (get_or s at 0) b)
 
   pub more_above : at < length s → hi < get_or s at 0 → more ((lo – hi) ∷ rs) code n (drop at s) ≡ IllFormed
   unfolding more
-  more_above h b = rw (at_cons s at 0 h, above lo hi (get_or s at 0) b)
+  more_above h b = rw (at_cons s at 0 h, above (lo – hi) (get_or s at 0) b)
 
   pub more_in : at < length s → lo ≤ get_or s at 0 → get_or s at 0 ≤ hi
       → more ((lo – hi) ∷ rs) code n (drop at s) ≡ more rs (code * 64 + (get_or s at 0 - 128)) (n + 1) (drop (at + 1) s)
   unfolding more
   more_in h p q = rw (at_cons s at 0 h, in_range_lem lo hi (get_or s at 0) p q)
-
--- where the rows before one end, and that row
-module _ (a : ℕ) (s : List ℕ) where
-  pub row1 : a ≤ 0x7F → by table a s ≡ Char a 1
-  unfolding by more
-  row1 q = rw (in_range_lem 0x00 0x7F a (omega arith) q, sub-zero)
-
-  past1 : 0x7F < a → by table a s ≡ by (drop 1 table) a s
-  unfolding by
-  past1 p = rw (above 0x00 0x7F a p)
-
-  pub row2 : 0xC2 ≤ a → a ≤ 0xDF → by table a s ≡ more (tail ∷ []) (a - 0xC0) 1 s
-  unfolding by
-  row2 p q = past1 (omega arith) ∙ rw (in_range_lem 0xC2 0xDF a p q)
-
-  past2 : 0xDF < a → by table a s ≡ by (drop 2 table) a s
-  unfolding by
-  past2 p = past1 (omega arith) ∙ rw (above 0xC2 0xDF a p)
-
-  pub row3 : 0xE0 ≤ a → a ≤ 0xE0 → by table a s ≡ more ((0xA0 – 0xBF) ∷ tail ∷ []) (a - 0xE0) 1 s
-  unfolding by
-  row3 p q = past2 (omega arith) ∙ rw (in_range_lem 0xE0 0xE0 a p q)
-
-  past3 : 0xE0 < a → by table a s ≡ by (drop 3 table) a s
-  unfolding by
-  past3 p = past2 (omega arith) ∙ rw (above 0xE0 0xE0 a p)
-
-  pub row4 : 0xE1 ≤ a → a ≤ 0xEC → by table a s ≡ more (tail ∷ tail ∷ []) (a - 0xE0) 1 s
-  unfolding by
-  row4 p q = past3 (omega arith) ∙ rw (in_range_lem 0xE1 0xEC a p q)
-
-  past4 : 0xEC < a → by table a s ≡ by (drop 4 table) a s
-  unfolding by
-  past4 p = past3 (omega arith) ∙ rw (above 0xE1 0xEC a p)
-
-  pub row5 : 0xED ≤ a → a ≤ 0xED → by table a s ≡ more ((0x80 – 0x9F) ∷ tail ∷ []) (a - 0xE0) 1 s
-  unfolding by
-  row5 p q = past4 (omega arith) ∙ rw (in_range_lem 0xED 0xED a p q)
-
-  past5 : 0xED < a → by table a s ≡ by (drop 5 table) a s
-  unfolding by
-  past5 p = past4 (omega arith) ∙ rw (above 0xED 0xED a p)
-
-  pub row6 : 0xEE ≤ a → a ≤ 0xEF → by table a s ≡ more (tail ∷ tail ∷ []) (a - 0xE0) 1 s
-  unfolding by
-  row6 p q = past5 (omega arith) ∙ rw (in_range_lem 0xEE 0xEF a p q)
-
-  past6 : 0xEF < a → by table a s ≡ by (drop 6 table) a s
-  unfolding by
-  past6 p = past5 (omega arith) ∙ rw (above 0xEE 0xEF a p)
-
-  pub row7 : 0xF0 ≤ a → a ≤ 0xF0 → by table a s ≡ more ((0x90 – 0xBF) ∷ tail ∷ tail ∷ []) (a - 0xF0) 1 s
-  unfolding by
-  row7 p q = past6 (omega arith) ∙ rw (in_range_lem 0xF0 0xF0 a p q)
-
-  past7 : 0xF0 < a → by table a s ≡ by (drop 7 table) a s
-  unfolding by
-  past7 p = past6 (omega arith) ∙ rw (above 0xF0 0xF0 a p)
-
-  pub row8 : 0xF1 ≤ a → a ≤ 0xF3 → by table a s ≡ more (tail ∷ tail ∷ tail ∷ []) (a - 0xF0) 1 s
-  unfolding by
-  row8 p q = past7 (omega arith) ∙ rw (in_range_lem 0xF1 0xF3 a p q)
-
-  past8 : 0xF3 < a → by table a s ≡ by (drop 8 table) a s
-  unfolding by
-  past8 p = past7 (omega arith) ∙ rw (above 0xF1 0xF3 a p)
-
-  pub row9 : 0xF4 ≤ a → a ≤ 0xF4 → by table a s ≡ more ((0x80 – 0x8F) ∷ tail ∷ tail ∷ []) (a - 0xF0) 1 s
-  unfolding by
-  row9 p q = past8 (omega arith) ∙ rw (in_range_lem 0xF4 0xF4 a p q)
-
-  past9 : 0xF4 < a → by table a s ≡ by (drop 9 table) a s
-  unfolding by
-  past9 p = past8 (omega arith) ∙ rw (above 0xF4 0xF4 a p)
-
-  pub row-none : 0xF4 < a → by table a s ≡ IllFormed
-  unfolding by
-  row-none p = past9 p
-
-  pub row_gap : 0x7F < a → a < 0xC2 → by table a s ≡ IllFormed
-  unfolding by
-  row_gap p q = past1 p ∙ rw (below 0xC2 0xDF a (omega arith), below 0xE0 0xE0 a (omega arith), below 0xE1 0xEC a (omega arith), below 0xED 0xED a (omega arith), below 0xEE 0xEF a (omega arith), below 0xF0 0xF0 a (omega arith), below 0xF1 0xF3 a (omega arith), below 0xF4 0xF4 a (omega arith))
 
 pub decode_end : (s : List ℕ) (at : ℕ) → length s ≤ at → decode (drop at s) ≡ End
 unfolding decode
@@ -135,6 +47,19 @@ decode_end s at h = rw (drop_of_length-le s h)
 pub decode-at : (s : List ℕ) (at : ℕ) → at < length s → decode (drop at s) ≡ by table (get_or s at 0) (drop (at + 1) s)
 unfolding decode
 decode-at s at h = rw (at_cons s at 0 h)
+
+-- by the row at place k of the table
+module _ (s : List ℕ) (at : ℕ) (h : at < length s) where
+  module _ (k : ℕ) {r : Row} {rs : List Row} (e : drop k table ≡ r ∷ rs) where
+    pub decode_row : Within r.first (get_or s at 0) → decode (drop at s) ≡ more r.rest (get_or s at 0 - r.mark) 1 (drop (at + 1) s)
+    decode_row w = decode-at s at h ∙ by_row k e (get_or s at 0) (drop (at + 1) s) w
+
+    -- above that row, below those behind it
+    pub decode_gap : highest r.first < get_or s at 0 → Ascending (get_or s at 0 + 1) rs → decode (drop at s) ≡ IllFormed
+    decode_gap p w = decode-at s at h ∙ by_gap k e (get_or s at 0) (drop (at + 1) s) p w
+
+  pub decode_ascii : get_or s at 0 ≤ 0x7F → decode (drop at s) ≡ Char (get_or s at 0) 1
+  decode_ascii p = decode-at s at h ∙ by_ascii (get_or s at 0) (drop (at + 1) s) p
 
 pub choose_cases : {P : Type 0} (t : Bool) (x y z : Decoded) → (x ≡ z → P) → (y ≡ z → P) → choose t x y ≡ z → P
 choose_cases true x y z f g e = f e

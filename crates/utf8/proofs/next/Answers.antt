@@ -1,9 +1,9 @@
 -- `utf8::next` meets its contract.
-use mathlib.Core.Path.{sym, ap, ◌∙◌}
-use Prim.Native.Nat.{◌+◌, ◌<◌}
-use lib.ListN.{length, get_or, drop}
+use mathlib.Core.Path.{refl, sym, ap, ◌∙◌}
+use Prim.Native.Nat.{◌<◌}
+use lib.ListN.{length, drop}
 use borrow.Author.Rules.{rules}
-use Rattle.utf8.proofs.Utf8Laws.{decode_end, decode-at, row1, row4, encode2, encode3, encode4}
+use Rattle.utf8.proofs.Utf8Laws.{decode_end, decode_row, decode_ascii, encode2, encode3, encode4}
 use Rattle.utf8.proofs.RareLaws.{bad_code, high_code, told_code}
 use Rattle.utf8.proofs.next.Goals as goal
 use Rattle.utf8.proofs.next.Goals.{In-Some}
@@ -16,12 +16,12 @@ returns-then-s-at c =
 pub returns-then-a-le127 : goal.returns-then-a-le127
 returns-then-a-le127 c =
     let a = c.args in
-    sym (decode-at a.s.now a.at (search rules) ∙ row1 (get_or a.s.now a.at 0) (drop (a.at + 1) a.s.now) (search rules))
+    sym (decode_ascii a.s.now a.at (search rules) (search rules))
 
 pub returns-then-s-at-gt2 : goal.returns-then-s-at-gt2
 returns-then-s-at-gt2 c =
     let a = c.args in
-    c.two_more.ensures ∙ sym (decode-at a.s.now a.at (search rules) ∙ row4 (get_or a.s.now a.at 0) (drop (a.at + 1) a.s.now) (search rules) (search rules))
+    c.two_more.ensures ∙ sym (decode_row a.s.now a.at (search rules) 3 refl (search rules))
 
 pub returns-in_default : goal.returns-in_default
 returns-in_default c =

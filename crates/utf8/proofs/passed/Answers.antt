@@ -1,10 +1,10 @@
 -- `utf8::passed` meets its contract.
-use mathlib.Core.Path.{sym, ap, ◌∙◌}
-use Prim.Native.Nat.{◌+◌, ◌<◌}
-use lib.ListN.{length, get_or, drop}
+use mathlib.Core.Path.{refl, sym, ap, ◌∙◌}
+use Prim.Native.Nat.{◌<◌}
+use lib.ListN.{length, drop}
 use borrow.Author.Rules.{rules}
 use Rattle.utf8.specs.Passed.{bytes_in}
-use Rattle.utf8.proofs.Utf8Laws.{decode-at, row1, row4, encode2, encode3, encode4}
+use Rattle.utf8.proofs.Utf8Laws.{decode_row, decode_ascii, encode2, encode3, encode4}
 use Rattle.utf8.proofs.RareLaws.{bad_code, high_code, told_code}
 use Rattle.utf8.proofs.passed.Goals as goal
 use Rattle.utf8.proofs.passed.Goals.{In_ok-c}
@@ -12,12 +12,12 @@ use Rattle.utf8.proofs.passed.Goals.{In_ok-c}
 pub returns-then-a-le127 : goal.returns-then-a-le127
 returns-then-a-le127 c =
     let a = c.args in
-    sym (ap bytes_in (decode-at a.s.now a.at (search rules) ∙ row1 (get_or a.s.now a.at 0) (drop (a.at + 1) a.s.now) (search rules)))
+    sym (ap bytes_in (decode_ascii a.s.now a.at (search rules) (search rules)))
 
 pub returns-then-s-at-gt2 : goal.returns-then-s-at-gt2
 returns-then-s-at-gt2 c =
     let a = c.args in
-    c.bytes_in.ensures ∙ ap bytes_in (c.two_more.ensures ∙ sym (decode-at a.s.now a.at (search rules) ∙ row4 (get_or a.s.now a.at 0) (drop (a.at + 1) a.s.now) (search rules) (search rules)))
+    c.bytes_in.ensures ∙ ap bytes_in (c.two_more.ensures ∙ sym (decode_row a.s.now a.at (search rules) 3 refl (search rules)))
 
 pub returns-in_err-c : goal.returns-in_err-c
 returns-in_err-c c = rw c.from_residual.ensures (sym (ap bytes_in (bad_code c.args.s.now c.args.at c.requires c.in_err-c.ensures)))
