@@ -13,7 +13,7 @@ pub struct Line {
 
 impl Line {
     // Where its kth character stands.
-    pub fn place(self, k: usize) -> usize
+    pub(crate) fn place(self, k: usize) -> usize
         requires { self.base + k * self.stride < 2 ^ 64 }
         ensures { result ≡ self.base + k * self.stride }
     {
