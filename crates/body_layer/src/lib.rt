@@ -73,8 +73,9 @@ fn body_at(thins: &[u32], bodies: &mut [u32], grid: &mut [u32], at: usize, top: 
     ensures grid_after { grid.new ≡ set grid.old at (shaded_code top y (get_or grid.old at 0)) }
 {
     let c = body([SPACE, thins[at], bodies[at], grid[at]], top, y);
-    bodies[at] = c[2];
+    // GRID first: where it stays, the compiler leaves the store out.
     grid[at] = c[3];
+    bodies[at] = c[2];
 }
 
 // Row y of the body's columns, n characters from `base` on: one place in three slices, of which three parts would have to be cut.
