@@ -1,7 +1,7 @@
 -- Sizes: the body's rows, its corner and its lines lie in a list that holds the canvas.
 use mathlib.Core.List.{List}
 use Prim.Native.Nat.{ℕ, suc, ◌+◌, ◌-◌, ◌*◌, ◌≤◌, ◌<◌}
-use native.Mathlib.Nat.{mul-le-mul_right, suc-mul}
+use native.Mathlib.Nat.{mul-le-mul_left, mul-le-mul_right, suc-mul}
 use native.Mathlib.Omega.{arith}
 use lib.ListN.{length}
 use Rattle.lists.specs.Line.{placed}
@@ -10,6 +10,13 @@ use Rattle.model.specs.declared.Rect.{Rect}
 use Rattle.thin_layer.specs.Sizes.{BodyIn}
 
 module _ {w h : ℕ} {r : Rect} (body : BodyIn w h r) where
+  -- a canvas that has a body is not longer than it has places, in either direction
+  pub sides_fit : (n : ℕ) → h * w ≤ n → (w ≤ n) × (h ≤ n)
+  sides_fit n f =
+      let a : 1 * w ≤ h * w = mul-le-mul_right w (omega (arith, body.tall, body.inside)) in
+      let b : h * 1 ≤ h * w = mul-le-mul_left h (omega (arith, body.wide, body.within)) in
+      (omega arith, omega arith)
+
   pub row_fits : (y n : ℕ) → y < r.bottom → h * w ≤ n → y * w + r.left + (r.right - r.left) ≤ n
   row_fits y n i f =
       let a : suc y * w ≤ h * w = mul-le-mul_right w (omega arith) in

@@ -1,5 +1,5 @@
 -- BODY: document 01, and `remove_information_item_region` of the Rust.
-use Rattle.std.specs.Prelude.{ℕ, ◌+◌, eqb, ltb}
+use Rattle.std.specs.Prelude.{List, ℕ, ◌+◌, eqb, ltb, get_or, set}
 use Rattle.lists.specs.Choose.{choose}
 use Rattle.lists.specs.Picture.{Picture, in_rect}
 use Rattle.model.specs.Box.{─, ┌, ┐, ├, ┤, ┬, ┴, ┼, ░}
@@ -16,6 +16,10 @@ body_code top y t b = choose (ltb (y + 1) top) ░ (choose (eqb y top) (top_of t
 -- GRID's: the same rows become ░
 unfoldable pub shaded_code : ℕ → ℕ → ℕ → ℕ
 shaded_code top y g = choose (ltb (y + 1) top) ░ g
+
+-- the four layers of a character in row y after the pass
+abbrev pub body_layers : ℕ → ℕ → List ℕ → List ℕ
+body_layers top y c = set (set c 2 (body_code top y (get_or c 1 0) (get_or c 2 0))) 3 (shaded_code top y (get_or c 3 0))
 
 -- BODY after the pass, of THIN's picture T and BODY's picture B: in the columns of the body r, down to its bottom
 abbrev pub body_picture : Rect → Picture → Picture → Picture

@@ -6,7 +6,7 @@ ghost use Rattle.lists.specs.Picture.{canvas};
 ghost use Rattle.body_layer.specs.Body.{body_picture};
 ghost use Rattle.grid_layer.specs.Grid.{grid_picture};
 ghost use Rattle.model.specs.Layers.{picture_of};
-ghost use Rattle.thin_layer.specs.Sizes.{Bounded, BodyIn};
+ghost use Rattle.thin_layer.specs.Sizes.{BodyIn};
 ghost use Rattle.thin_layer.specs.Thin.{thin_picture};
 ghost use Rattle.sheet_rows.specs.Rows.{rows_at};
 ghost use Rattle.utf8.specs.Utf8.{on_text};
@@ -28,7 +28,7 @@ pub struct Drawing {
 
 // THIN of TEXT, BODY of THIN, GRID of BODY.
 fn make_layers(text: Layer, thins: &mut [u32], bodies: &mut [u32], grid: &mut [u32], r: Rect)
-    requires sizes { Bounded text.width text.height × (text.height * text.width ≤ length thins.old) × (text.height * text.width ≤ length bodies.old) × (text.height * text.width ≤ length grid.old) }
+    requires sizes { (text.height * text.width ≤ length thins.old) × (text.height * text.width ≤ length bodies.old) × (text.height * text.width ≤ length grid.old) }
     requires body { BodyIn text.width text.height r }
     ensures thin { canvas text.entry.width text.entry.height thins.new ≡ thin_picture text.entry.width text.entry.height (picture_of text.entry) }
     ensures body { canvas text.entry.width text.entry.height bodies.new ≡ body_picture r (thin_picture text.entry.width text.entry.height (picture_of text.entry)) (canvas text.entry.width text.entry.height bodies.old) }

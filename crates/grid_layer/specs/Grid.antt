@@ -1,5 +1,5 @@
 -- GRID: document 01, "every row holding ─ and then every column holding │ is carried across the body", by `make_grid`'s cases.
-use Rattle.std.specs.Prelude.{ℕ, ◌+◌, ◌-◌, eqb, ltb}
+use Rattle.std.specs.Prelude.{List, ℕ, ◌+◌, ◌-◌, eqb, ltb, get_or, set}
 use Rattle.lists.specs.Choose.{choose}
 use Rattle.lists.specs.OneOf.{any_at}
 use Rattle.lists.specs.Picture.{Picture, in_rect}
@@ -22,6 +22,10 @@ carried_code d off n k c =
     (choose (eqb c d.last) (choose (ltb (k + 1) n) ┼ c)
     (choose (eqb c d.first) (choose (ltb 0 (off + k)) ┼ c)
     (choose (eqb c blank) d.line c)))
+
+-- the four layers of a character after its line is carried across
+abbrev pub carried_layers : Stroke → ℕ → ℕ → ℕ → List ℕ → List ℕ
+carried_layers d off n k c = set c 3 (carried_code d off n k (get_or c 3 0))
 
 -- the character at place k of a line of n characters g 0, g 1, ..: a line that holds a character of its stroke is carried across, any other stays
 abbrev pub carried_at : Stroke → ℕ → ℕ → (ℕ → ℕ) → ℕ → ℕ

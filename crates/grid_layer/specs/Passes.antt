@@ -5,7 +5,7 @@ use Rattle.lists.specs.Line.{store_at}
 use Rattle.lists.specs.OneOf.{any_at}
 use Rattle.lists.specs.Turns.{turns}
 use Rattle.grid_layer.specs.Grid.{carried_code}
-use Rattle.grid_layer.specs.declared.Line.{Line}
+use Rattle.grid_layer.specs.declared.line.Line.{Line}
 use Rattle.grid_layer.specs.declared.Stroke.{Stroke}
 
 -- where the kth character of a line stands

@@ -4,7 +4,7 @@
 ghost use Rattle.std.specs.Prelude.{◌≡◌, ◌*◌, ◌≤◌, length};
 ghost use Rattle.lists.specs.Picture.{canvas};
 ghost use Rattle.model.specs.Layers.{picture_of};
-ghost use Rattle.thin_layer.specs.Thin.{thin_of, thin_picture};
+ghost use Rattle.thin_layer.specs.Thin.{thin_of, thin_layers, thin_picture};
 
 use model::box_drawing::*;
 use model::layer::Layer;
@@ -44,21 +44,27 @@ fn thin_code(t: u32) -> u32
     }
 }
 
-// THIN of TEXT. The last character that was looked up is kept with what was made of it, for equal neighbours.
+// The four layers of a character, with THIN made from TEXT.
+fn thin(c: [u32; 4]) -> [u32; 4]
+    ensures { result ≡ thin_layers c }
+{
+    let [text, _, body, grid] = c;
+    [text, thin_code(text), body, grid]
+}
+
+// THIN of TEXT. A layer that the pass is not handed is blank in a character. The last character that was looked up is kept, for equal neighbours.
 pub fn make_thin(text: Layer, thins: &mut [u32])
     requires { text.height * text.width ≤ length thins.old }
     ensures { canvas text.entry.width text.entry.height thins.new ≡ thin_picture text.entry.width text.entry.height (picture_of text.entry) }
 {
     let codes = text.codes;
     let n = text.height * text.width;
-    let mut kept = SPACE;
-    let mut made = SPACE;
+    let mut kept = [SPACE; 4];
     for i in 0..n {
         let code = codes[i];
-        if code != kept {
-            kept = code;
-            made = thin_code(code);
+        if code != kept[0] {
+            kept = thin([code, SPACE, SPACE, SPACE]);
         }
-        thins[i] = made;
+        thins[i] = kept[1];
     }
 }

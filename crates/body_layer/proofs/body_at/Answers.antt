@@ -2,4 +2,4 @@
 use Rattle.body_layer.proofs.body_at.Goals as goal
 
 pub returns : goal.returns
-returns c = record { bodies_after = rw c.body_code.ensures; grid_after = rw c.shaded_code.ensures }
+returns c = record { bodies_after = rw c.body-c.ensures; grid_after = rw c.body-c.ensures }

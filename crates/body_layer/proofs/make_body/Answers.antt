@@ -1,7 +1,7 @@
 -- `body_layer::make_body` meets its contract. The invariant: the first y rows are made, in BODY and in GRID.
 use Prim.Native.Nat.{ℕ, ◌+◌, ◌-◌, ◌*◌, ◌≤◌}
 use native.Mathlib.Omega.{arith}
-use Rattle.body_layer.proofs.SizeLaws.{row_fits}
+use Rattle.body_layer.proofs.SizeLaws.{row_fits, sides_fit}
 use Rattle.body_layer.proofs.BodyLaws.{body-canvas, shaded_canvas}
 use Rattle.thin_layer.proofs.Turning.{turning_start, turning_more, turning_end}
 use Rattle.body_layer.proofs.make_body.Goals as goal
@@ -24,7 +24,8 @@ pub body_row-requires : goal.body_row-requires
 body_row-requires c =
     let z = c.requires.sizes in
     let row_in = row (goal.at.body_row-requires c).In-loop-y in
-    omega (arith, row_in _ c.args.thins.sized, row_in _ z.1, row_in _ z.2, c.loop-y.invariant)
+    let sides = sides_fit c.requires.body _ c.args.thins.sized in
+    omega (arith, row_in _ c.args.thins.sized, row_in _ z.0, row_in _ z.1, sides.1, c.requires.body.inside, c.loop-y.invariant)
 
 pub loop-y-preserved : goal.loop-y-preserved
 loop-y-preserved c =
@@ -39,6 +40,6 @@ returns c =
     let t = a.thins in
     let l = c.loop-y in
     record {
-      bodies_after = body-canvas t.width t.height a.r c.requires.body t.codes.now a.bodies.now _ z.1 (turning_end l.invariant.0 c.loop-y-test.false);
-      grid_after = shaded_canvas t.width t.height a.r c.requires.body a.grid.now _ z.2 (turning_end l.invariant.1 c.loop-y-test.false);
+      bodies_after = body-canvas t.width t.height a.r c.requires.body t.codes.now a.bodies.now _ z.0 (turning_end l.invariant.0 c.loop-y-test.false);
+      grid_after = shaded_canvas t.width t.height a.r c.requires.body a.grid.now _ z.1 (turning_end l.invariant.1 c.loop-y-test.false);
     }

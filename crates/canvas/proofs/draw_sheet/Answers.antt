@@ -11,7 +11,7 @@ use Rattle.outline.specs.Outline.{outline_of}
 use Rattle.scan.specs.Canvas.{scanned_in, size_of}
 use Rattle.sheet_rows.specs.Rows.{rows_at}
 use Rattle.utf8.specs.Utf8.{checked}
-use Rattle.canvas.proofs.DrawingLaws.{ill_formed, well_formed_lem, scan_refused, refused-behind, canvas-fits, columns_fit, rows_fit, outline_refused, outlined, body_in, shown}
+use Rattle.canvas.proofs.DrawingLaws.{ill_formed, well_formed_lem, scan_refused, refused-behind, canvas-fits, outline_refused, outlined, body_in, shown}
 use Rattle.canvas.proofs.draw_sheet.Goals as goal
 use Rattle.canvas.proofs.draw_sheet.Goals.{After-validate_lines, In_ok-map_err, In-Ok, In_ok-outline}
 
@@ -66,12 +66,7 @@ make_layers-requires c =
     let e = size (goal.at.make_layers-requires c).In-Ok in
     let n = canvas-fits (rows_at c.args.s.now 0) c.in-Ok.c e in
     record {
-      sizes = (
-        record { narrow = columns_fit (rows_at c.args.s.now 0) c.in-Ok.c e; low = rows_fit (rows_at c.args.s.now 0) c.in-Ok.c e },
-        omega (arith, p.thin),
-        omega (arith, p.body),
-        omega (arith, p.grid),
-      );
+      sizes = (omega (arith, p.thin), omega (arith, p.body), omega (arith, p.grid));
       body = body_in (rows_at c.args.s.now 0) c.in-Ok.c e c.args.text.now _ c.scan.ensures.layer _ (outline_told (goal.at.make_layers-requires c).In_ok-outline);
     }
 

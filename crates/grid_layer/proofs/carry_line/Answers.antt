@@ -1,34 +1,27 @@
 -- `grid_layer::carry_line` meets its contract. The invariant: the first k characters of the line are carried.
-use mathlib.Core.Path.{sym, ◌∙◌}
-use Prim.Native.Nat.{◌+◌, ◌*◌, ◌<◌}
+use mathlib.Core.Path.{refl, sym, ◌∙◌}
 use native.Mathlib.Omega.{arith}
-use lib.ListN.{length}
 use Rattle.grid_layer.specs.Passes.{place_in}
-use Rattle.grid_layer.proofs.CarryLaws.{line_carried_lem, line_stays}
+use Rattle.grid_layer.proofs.CarryLaws.{own_stays, line_carried_lem, line_stays}
 use Rattle.thin_layer.proofs.Turning.{turning_start, turning_more, turning_end}
 use Rattle.grid_layer.proofs.carry_line.Goals as goal
-use Rattle.grid_layer.proofs.carry_line.Goals.{In-loop-k}
+use Rattle.grid_layer.proofs.carry_line.Goals.{then-grid-place, else-grid-place}
 
 pub loop-k-init : goal.loop-k-init
 loop-k-init c = turning_start _ _ _
 
--- the place lies in the layer
-inside : (c : In-loop-k) → c.args.l.base + c.loop-k.k * c.args.l.stride < length c.args.grid.now
-inside c = c.requires.by_index c.loop-k.k c.loop-k-test.true
-
-pub overflow_mul-k : goal.overflow_mul-k
-overflow_mul-k c = omega (arith, inside (goal.at.overflow_mul-k c).In-loop-k)
-
-pub overflow_add-l : goal.overflow_add-l
-overflow_add-l c = omega (arith, inside (goal.at.overflow_add-l c).In-loop-k)
-
-pub carry_at-requires : goal.carry_at-requires
-carry_at-requires c =
-    record { at_in_bounds = omega (arith, inside (goal.at.carry_at-requires c).In-loop-k); k_lt_n = omega (arith, c.requires.n_bound); line_stays = c.requires.line_stays }
-
 pub loop-k-preserved : goal.loop-k-preserved
 loop-k-preserved c =
-    turning_more c.loop-k.invariant _ c.loop-k-test.true c.carry_at.auto.grid c.carry_at.ensures
+    let a = c.args in
+    let l = c.loop-k in
+    elim c.if-grid-place.branch [
+      | then-grid-place w ↦
+          rw w.grid-is (turning_more l.invariant _ c.loop-k-test.true w.carry_at.auto.grid w.carry_at.ensures)
+      | else-grid-place w ↦
+          rw w.grid-is
+          (turning_more l.invariant _ c.loop-k-test.true refl
+          (own_stays a.d c.requires.line_stays a.l.off a.l.count l.k l.grid (place_in a.l l.k) (rw (sym c.place.ensures) (omega (arith, w.if-grid-place.false)))))
+    ]
 
 pub returns-after-loop-k : goal.returns-after-loop-k
 returns-after-loop-k c =

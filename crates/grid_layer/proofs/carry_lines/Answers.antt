@@ -14,14 +14,14 @@ loop-j-init c = turning_start _ _ _
 inside : (c : In-loop-j) (k : ℕ) → k < c.args.l.count → placed c.args.l.base c.args.across c.args.l.stride c.loop-j.j k < length c.args.grid.now
 inside c k h = c.requires.by_index c.loop-j.j k c.loop-j-test.true h
 
-pub overflow_mul-j : goal.overflow_mul-j
-overflow_mul-j c = omega (arith, inside (goal.at.overflow_mul-j c).In-loop-j 0 (omega arith))
+pub overflow_mul-line : goal.overflow_mul-line
+overflow_mul-line c = omega (arith, inside (goal.at.overflow_mul-line c).In-loop-j 0 (omega arith))
 
-pub overflow_add-l : goal.overflow_add-l
-overflow_add-l c = omega (arith, inside (goal.at.overflow_add-l c).In-loop-j 0 (omega arith))
+pub overflow_add-line : goal.overflow_add-line
+overflow_add-line c = omega (arith, inside (goal.at.overflow_add-line c).In-loop-j 0 (omega arith))
 
 pub carry_line-requires : goal.carry_line-requires
-carry_line-requires c = record { by_index = (λ k h. omega (arith, inside (goal.at.carry_line-requires c).In-loop-j k h, c.loop-j.invariant.long)); n_bound = omega arith; line_stays = c.requires.line_stays }
+carry_line-requires c = record { by_index = (λ k h. omega (arith, inside (goal.at.carry_line-requires c).In-loop-j k h, c.loop-j.invariant.long)); line_stays = c.requires.line_stays }
 
 pub loop-j-preserved : goal.loop-j-preserved
 loop-j-preserved c =

@@ -10,13 +10,13 @@ use Rattle.grid_layer.proofs.make_grid.Goals.{After-carry_lines, After-copy_laye
 
 -- what stands in GRID is as long
 copied : (c : After-copy_layer) → c.args.bodies.height * c.args.bodies.width ≤ length c.copy_layer.new.dst
-copied c = omega (arith, c.copy_layer.auto.dst, c.requires.sizes.1)
+copied c = omega (arith, c.copy_layer.auto.dst, c.requires.sizes)
 
 carried : (c : After-carry_lines) → c.args.bodies.height * c.args.bodies.width ≤ length c.copy_layer.new.dst → c.args.bodies.height * c.args.bodies.width ≤ length c.carry_lines.new.grid
 carried c l = omega (arith, l, c.carry_lines.auto.grid)
 
 corner : (c : After-copy_layer) → c.args.r.top * c.args.bodies.width + c.args.r.left < length c.args.grid.now
-corner c = corner_in_lem c.requires.body c.args.grid.now c.requires.sizes.1
+corner c = corner_in_lem c.requires.body c.args.grid.now c.requires.sizes
 
 pub overflow_mul-base : goal.overflow_mul-base
 overflow_mul-base c = omega (arith, corner (goal.at.overflow_mul-base c).After-copy_layer)

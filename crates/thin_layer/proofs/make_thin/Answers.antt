@@ -1,5 +1,5 @@
--- `thin_layer::make_thin` meets its contract. The invariant: THIN of the first i characters is made, and `made` is THIN's character of `kept`.
-use mathlib.Core.Path.{ap, ◌∙◌}
+-- `thin_layer::make_thin` meets its contract. The invariant: THIN of the first i characters is made, and `kept` has THIN's character of its TEXT's.
+use mathlib.Core.Path.{refl, ap, ◌∙◌}
 use native.Mathlib.Omega.{arith}
 use lib.ListN.{set, length-set}
 use Rattle.thin_layer.specs.Thin.{thin_of}
@@ -16,12 +16,11 @@ loop-i-preserved c =
     let l = c.loop-i in
     elim c.if-code-kept.branch [
       | then-code-kept w ↦
-          let e = w.thin_code-made.ensures in
-          rw (w.kept-is, w.made-is)
-          (turning_more l.invariant.0 _ c.loop-i-test.true (length-set l.thins l.i _) (ap (set l.thins l.i) e), e)
+          rw (w.kept-is, w.thin-kept.ensures)
+          (turning_more l.invariant.0 _ c.loop-i-test.true (length-set l.thins l.i _) refl, refl)
       | else-code-kept w ↦
-          rw (w.kept-is, w.made-is)
-          (turning_more l.invariant.0 _ c.loop-i-test.true (length-set l.thins l.i l.made) (ap (set l.thins l.i) (l.invariant.1 ∙ ap thin_of (omega (arith, w.if-code-kept.false)))), l.invariant.1)
+          rw w.kept-is
+          (turning_more l.invariant.0 _ c.loop-i-test.true (length-set l.thins l.i _) (ap (set l.thins l.i) (l.invariant.1 ∙ ap thin_of (omega (arith, w.if-code-kept.false)))), l.invariant.1)
     ]
 
 pub returns : goal.returns
