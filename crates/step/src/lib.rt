@@ -53,7 +53,7 @@ fn add_frame(
 {
     let k = n.found[at.y * n.grid.width + at.x] as usize;
     if k < n.count {
-        return plane_cells::add_cells(n.outline, at.x, k, plane, s);
+        return plane_cells::add_cells(n.outline, at.x, k, plane.cells, plane.rows, s);
     }
     Err(why_none(n.grid, at))
 }
