@@ -130,8 +130,12 @@ fn add_grid_row(
     ensures same { SameSlice plane.old plane.new }
 {
     let o = n.outline;
-    plane_rows::add_line_row(plane, s, y == o.y, line::MAIN)?;
-    plane_rows::add_line_row(plane, s, plane_cells::is_at(o.below, y), line::ANNOTATIONS)?;
+    if y == o.y {
+        plane_rows::add_line(plane, s, line::MAIN)?;
+    }
+    if plane_cells::is_at(o.below, y) {
+        plane_rows::add_line(plane, s, line::ANNOTATIONS)?;
+    }
     add_frames(n, y, plane, s)
 }
 
