@@ -61,6 +61,8 @@ fn hit_policy_placement(sheet: TextPlane) -> Result<HitPolicyPlacement, Refusal>
     }
 }
 
+// `clauses` searches for the place of a cell: here none is told, and one search for both would want a law that ties the
+// two definitions.
 // Whether a cell of a kind stands in a row.
 fn holds_in(plane: Plane, row: usize, kind: Cell) -> bool
     requires { row < plane.rows }
