@@ -1,4 +1,6 @@
 // The tests on the cells of an upright sheet that tell whether its clauses have allowed values.
+// x and n stay two numbers: `cell_tests` says why. n, m and h are the sizes that `clauses::Shape` holds once it is
+// known: a struct of the three for these calls would be taken apart in each.
 #![tactic(auto)]
 
 ghost use Rattle.std.specs.Prelude.{[], ◌≡◌, ◌+◌, ◌≤◌, ◌<◌};
@@ -13,6 +15,8 @@ use cells::plane::Plane;
 use model::Refusal;
 use model::limits::{PLANE_CELLS, PLANE_ROWS};
 
+// The cells looked at have been passed as regions, so their numbers are compared alone: asked here, each kind would be
+// read again in the innermost loop.
 // Whether region a is among the n cells of row y from column x on.
 fn is_among(plane: Plane, y: usize, x: usize, n: usize, a: usize) -> bool
     requires { (y < plane_rows) × (x + n ≤ plane_cells) }

@@ -1,4 +1,6 @@
 // The regions of the cells of an upright sheet, and tests on them.
+// The n columns from x on stay two numbers, here and above: their sum is at most 128 here, and at most 64 in `allowed`,
+// which reads the slice, so one fact of a struct would ask more than some callers have to know.
 #![tactic(auto)]
 
 ghost use Rattle.std.specs.Prelude.{◌≡◌, ◌+◌, ◌≤◌, ◌<◌};

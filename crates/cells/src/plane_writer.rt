@@ -2,7 +2,6 @@
 ghost use Rattle.cells.specs.Plane.{PlaneFits};
 
 use model::Cell;
-use model::limits::{PLANE_CELLS, PLANE_ROWS};
 
 // The rows that are ended, and the slice that holds them and has room for more.
 #[derive(Drop)]
@@ -24,7 +23,7 @@ impl<'a> PlaneWriter<'a> {
         ensures cells { next_row self.new (i + 1) ≡ next_row self.old i ++ (c ∷ []) }
         ensures kept { Kept self.old self.new }
     {
-        self.cells[PLANE_ROWS + self.rows * PLANE_CELLS + i] = c.number();
+        crate::put_cell(self.cells, self.rows, i, c);
     }
 
     // Ends the next row behind its first n cells.

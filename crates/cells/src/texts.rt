@@ -25,9 +25,7 @@ impl<'b, 's> Texts<'b, 's> {
         requires { k < self.count }
         ensures { result.now ≡ text_at self.entry.bytes.now self.entry.spans.now k }
     {
-        let from = self.spans[k * 2] as usize;
-        let to = from + self.spans[k * 2 + 1] as usize;
-        &self.bytes[from..to]
+        crate::text_at(self.bytes, self.spans, k)
     }
 
     // The text of a cell's region.

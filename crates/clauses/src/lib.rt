@@ -15,7 +15,7 @@ use cells::plane::Plane;
 use layouts::Layout;
 use model::{Cell, Refusal};
 
-// A row and a column.
+// A row and a column of a plane; a `Point` is a column and a row of a picture.
 #[derive(Clone, Copy)]
 pub struct Place {
     pub row: usize,
@@ -68,24 +68,22 @@ fn width(plane: Plane) -> usize
     plane.width(0)
 }
 
-// The annotations right of a crossing in row y, column x.
-fn notes_behind(plane: Plane, y: usize, x: usize) -> Result<Notes, Refusal>
-    requires { (y < plane.rows) × (x ≤ plane_cells) }
-    ensures notes { result ≡ notes_at (plane_of plane.entry) (Some (record { row = y; col = x })) }
-    ensures fit { NotesFit result plane.entry.rows x }
+// The annotations right of a crossing.
+fn notes_behind(plane: Plane, spot: Place) -> Result<Notes, Refusal>
+    requires { (spot.row < plane.rows) × (spot.col ≤ plane_cells) }
+    ensures notes { result ≡ notes_at (plane_of plane.entry) (Some spot) }
+    ensures fit { NotesFit result plane.entry.rows spot.col }
 {
     let w = width(plane);
-    if w <= x {
+    if w <= spot.col {
         return Err(Refusal::PlaneMalformed);
     }
-    let k = w - (x + 1);
-    passes::pass_row(plane, 0, x + 1, k)?;
-    passes::pass_rows(plane, y + 1, x + 1, k)?;
-    Ok(Notes {
-        count: k,
-        col: x + 1,
-        row: y + 1,
-    })
+    let col = spot.col + 1;
+    let row = spot.row + 1;
+    let count = w - col;
+    passes::pass_row(plane, 0, col, count)?;
+    passes::pass_rows(plane, row, col, count)?;
+    Ok(Notes { count, col, row })
 }
 
 // The annotations, where a crossing in column c stands before them.
@@ -95,7 +93,7 @@ fn notes_at(plane: Plane, spot: Option<Place>, c: usize) -> Result<Notes, Refusa
     ensures fit { NotesFit result plane.entry.rows c }
 {
     match spot {
-        Some(p) => notes_behind(plane, p.row, p.col),
+        Some(p) => notes_behind(plane, p),
         None => Ok(Notes {
             count: 0,
             col: 0,

@@ -1,4 +1,5 @@
 // What the output clauses of an upright sheet have: every refusal in its order.
+// x and m stay two numbers: `cell_tests` says why.
 #![tactic(auto)]
 
 ghost use Rattle.std.specs.Prelude.{◌≡◌, ◌+◌, ◌≤◌};
@@ -57,6 +58,7 @@ fn lay_named(plane: Plane, x: usize, m: usize, valued: bool) -> Result<Layout, R
     })
 }
 
+// Not one function with `lay_named`: what they share is two calls, and each is its own layout in specs/.
 // A label in row 0, component names in row 1 and, if valued, allowed values in row 2.
 fn lay_labelled(plane: Plane, x: usize, m: usize, valued: bool) -> Result<Layout, Refusal>
     requires { x + m ≤ 128 }

@@ -1,4 +1,5 @@
 // Cells of an upright sheet that are all regions: every refusal in its order.
+// x and n stay two numbers: `cell_tests` says why.
 #![tactic(auto)]
 
 ghost use Rattle.std.specs.Prelude.{◌≡◌, ◌+◌, ◌≤◌};

@@ -1,7 +1,6 @@
 -- Corners: the first cells of the first and the last row.
 use Rattle.std.specs.Prelude.{Ok, Err, Option, None, Some}
 use mathlib.Core.Path.{◌≡◌, refl, sym, ◌∙◌}
-use mathlib.Core.Bool.{false}
 use mathlib.Core.List.{List}
 use Prim.Native.Nat.{ℕ, zero, suc, ◌-◌, ◌<◌}
 use native.Mathlib.Omega.{arith}
@@ -17,14 +16,15 @@ use Rattle.model.specs.declared.Refusal.TheVariants.{PlaneEmpty, PlaneMalformed}
 use Rattle.cells.specs.Plane.{row_in, plane_in}
 use Rattle.placement.specs.Placement.{policy_in, corner_policy, bottom_left, placement_of}
 use Rattle.rule_numbers.specs.Line.{slot_of}
+use Rattle.rule_numbers.specs.declared.Line.TheVariants.{Row}
 use Rattle.rule_numbers.proofs.LineLaws.{first_cell, first-row, last_row}
 
 module _ (text : ℕ → List ℕ) (d : List ℕ) where
   -- a row's corner
-  pub corner_cell : (row : ℕ) (c : Cell) → Some c ≡ slot_of d false row 0 → Ok (policy_in text c) ≡ corner_policy text (Some (row_in d row))
+  pub corner_cell : (row : ℕ) (c : Cell) → Some c ≡ slot_of d (Row row) 0 → Ok (policy_in text c) ≡ corner_policy text (Some (row_in d row))
   corner_cell row c e = rw (first_cell d row, sym e)
 
-  pub corner_missing : (row : ℕ) → None ≡ slot_of d false row 0 → Err PlaneMalformed ≡ corner_policy text (Some (row_in d row))
+  pub corner_missing : (row : ℕ) → None ≡ slot_of d (Row row) 0 → Err PlaneMalformed ≡ corner_policy text (Some (row_in d row))
   corner_missing row e = rw (first_cell d row, sym e)
 
   module _ (n : ℕ) (h : 0 < n) where

@@ -12,6 +12,7 @@ use cells::plane::Plane;
 use cells::text_plane::TextPlane;
 use cells::texts::Texts;
 use model::{Cell, HitPolicy, HitPolicyPlacement, Orientation, Refusal, RuleNumbersPlacement};
+use rule_numbers::Line;
 
 // The hit policy that the text of a cell's region is.
 fn policy_in(texts: Texts, c: Cell) -> Option<HitPolicy>
@@ -26,7 +27,7 @@ fn corner_policy(sheet: TextPlane, row: usize) -> Result<Option<HitPolicy>, Refu
     requires { row < sheet.plane.rows }
     ensures { result ≡ corner_policy (text_of sheet.entry.texts) (Some (row_in sheet.entry.plane.cells.now row)) }
 {
-    match rule_numbers::slot_at(sheet.plane, false, row, 0) {
+    match rule_numbers::slot_at(sheet.plane, Line::Row(row), 0) {
         Some(c) => Ok(policy_in(sheet.texts, c)),
         None => Err(Refusal::PlaneMalformed),
     }
@@ -60,6 +61,8 @@ fn hit_policy_placement(sheet: TextPlane) -> Result<HitPolicyPlacement, Refusal>
     }
 }
 
+// `clauses` searches for the place of a cell: here none is told, and one search for both would want a law that ties the
+// two definitions.
 // Whether a cell of a kind stands in a row.
 fn holds_in(plane: Plane, row: usize, kind: Cell) -> bool
     requires { row < plane.rows }

@@ -16,6 +16,7 @@ use lent::Lent;
 use model::{HitPolicy, Orientation, Refusal};
 
 // Which way a sheet is laid out, its hit policy, how many rules it has, and the rows of its upright sheet.
+// Flat, and no field of `Oriented`: every reader of the first three would name it on the way.
 #[derive(Clone, Copy)]
 pub struct Stated {
     pub orientation: Orientation,
@@ -40,6 +41,7 @@ pub fn upright_sheet(sheet: TextPlane, out: &mut [u32]) -> Result<Stated, Refusa
     })
 }
 
+// The three work slices are lent side by side, as the C interface lends them: nothing is allocated here.
 // What a lent plane states before the clause rules; the upright sheet goes into `out`.
 pub fn lent_sheet(
     l: Lent,

@@ -1,15 +1,12 @@
 // Cells that are added to a row of a plane.
 #![tactic(auto)]
 
-ghost use Rattle.std.specs.Prelude.{true, ◌≡◌, [], ◌∷◌, ◌++◌, ◌+◌, ◌≤◌, ◌<◌};
-ghost use Rattle.lists.specs.Choose.{choose};
-ghost use Rattle.model.specs.Cells.{Small};
-ghost use Rattle.model.specs.Limits.{plane_rows, plane_cells, region_count};
-ghost use Rattle.cells.specs.Written.{next_row, Kept};
+ghost use Rattle.std.specs.Prelude.{◌≡◌, ◌≤◌, ◌<◌, length};
+ghost use Rattle.model.specs.Limits.{plane_size, region_count};
+ghost use Rattle.cells.specs.Plane.{KeptBefore};
 ghost use Rattle.plane_cells.specs.Row.{is_at, with_cell, fitting};
-ghost use Rattle.plane_cells.specs.Made.{row_of, row_made, RowFit, RowFits};
+ghost use Rattle.plane_cells.specs.Made.{row_in, row_made_in, RowFit, RowFits};
 
-use cells::plane_writer::PlaneWriter;
 use model::limits::{PLANE_CELLS, PLANE_ROWS};
 use model::{Cell, Refusal};
 use outline::Outline;
@@ -18,10 +15,7 @@ use outline::Outline;
 pub fn is_at(c: Option<usize>, x: usize) -> bool
     ensures { result ≡ is_at c x }
 {
-    match c {
-        Some(i) => i == x,
-        None => false,
-    }
+    c == Some(x)
 }
 
 // A row so far: how many cells it has, and the columns of the two double lines.
@@ -32,64 +26,40 @@ pub struct RowSofar {
     pub annotation: Option<usize>,
 }
 
-// `t` is a fact of the drawing, that a line stands there; tested here, so that the caller has one path.
-// A double line behind the first i cells of a row, where there is one.
-fn add_line_if(plane: &mut PlaneWriter, i: usize, t: bool, c: Cell) -> usize
-    requires { (plane.old.rows < plane_rows) × (t ≡ true → i < plane_cells) × Small c }
-    ensures ends { result ≡ i + choose t 1 0 }
-    ensures cells { next_row plane.new result ≡ next_row plane.old i ++ choose t (c ∷ []) [] }
-    ensures kept { Kept plane.old plane.new }
-{
-    if t {
-        plane.put_cell(i, c);
-        return i + 1;
-    }
-    i
-}
-
-// The column of a double line: a new one, or the last.
-fn column_if(t: bool, i: usize, last: Option<usize>) -> Option<usize>
-    ensures { result ≡ choose t (Some i) last }
-{
-    if t { Some(i) } else { last }
-}
-
-fn one_if(t: bool) -> usize
-    ensures { result ≡ choose t 1 0 }
-{
-    if t { 1 } else { 0 }
-}
-
 // The cell of a frame in column x, of a region, behind the double lines left of it.
 pub fn add_cells(
     o: Outline,
     x: usize,
     region: usize,
-    plane: &mut PlaneWriter,
+    plane: &mut [u32],
+    row: usize,
     s: RowSofar,
 ) -> Result<RowSofar, Refusal>
-    requires { (region < region_count) × RowFit s plane.old.rows }
-    ensures made { row_made result plane.new ≡ fitting plane.old.rows (with_cell o x region (row_of s plane.old)) }
-    ensures fits { RowFits result plane.new.rows }
-    ensures kept { Kept plane.old plane.new }
+    requires { (region < region_count) × RowFit s row × (plane_size ≤ length plane.old) }
+    ensures made { row_made_in result plane.new row ≡ fitting row (with_cell o x region (row_in s plane.old row)) }
+    ensures fits { RowFits result row }
+    ensures before { KeptBefore plane.old plane.new row }
 {
-    if PLANE_ROWS <= plane.rows {
+    if PLANE_ROWS <= row {
         return Err(Refusal::OverLimit);
     }
     let is_output = x == o.x;
-    let right = o.right;
-    let is_annotation = is_at(right, x);
+    let is_annotation = is_at(o.right, x);
     let from = s.cells;
-    if PLANE_CELLS < from + one_if(is_output) + one_if(is_annotation) + 1 {
+    let a = from + usize::from(is_output);
+    let b = a + usize::from(is_annotation);
+    if PLANE_CELLS <= b {
         return Err(Refusal::OverLimit);
     }
-    let a = add_line_if(plane, from, is_output, Cell::VerticalOutputDoubleLine);
-    let b = add_line_if(plane, a, is_annotation, Cell::VerticalAnnotationDoubleLine);
-    plane.put_cell(b, Cell::Region(region as u32));
-    let last_output = s.output;
-    let last_annotation = s.annotation;
-    let output = column_if(is_output, from, last_output);
-    let annotation = column_if(is_annotation, a, last_annotation);
+    if is_output {
+        cells::put_cell(plane, row, from, Cell::VerticalOutputDoubleLine);
+    }
+    if is_annotation {
+        cells::put_cell(plane, row, a, Cell::VerticalAnnotationDoubleLine);
+    }
+    cells::put_cell(plane, row, b, Cell::Region(region as u32));
+    let output = if is_output { Some(from) } else { s.output };
+    let annotation = if is_annotation { Some(a) } else { s.annotation };
     Ok(RowSofar {
         cells: b + 1,
         output,

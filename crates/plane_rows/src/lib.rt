@@ -2,7 +2,6 @@
 #![tactic(auto)]
 
 ghost use Rattle.std.specs.Prelude.{◌≡◌, ◌<◌};
-ghost use Rattle.lists.specs.Choose.{choose};
 ghost use Rattle.lists.specs.Run.{build};
 ghost use Rattle.model.specs.Cells.{Small};
 ghost use Rattle.model.specs.Limits.{plane_rows};
@@ -45,8 +44,8 @@ fn put_line(plane: &mut PlaneWriter, s: PlaneSofar, l: Line)
     }
 }
 
-// A line row more.
-fn add_line(plane: &mut PlaneWriter, s: PlaneSofar, l: Line) -> Result<(), Refusal>
+// A line row more, as long as the last.
+pub fn add_line(plane: &mut PlaneWriter, s: PlaneSofar, l: Line) -> Result<(), Refusal>
     ensures made { line_made result s plane.new ≡ add_line (line_cell l.output l.annotation l.plain s.output s.annotation) (rows_of s plane.old) }
     ensures same { SameSlice plane.old plane.new }
 {
@@ -55,17 +54,5 @@ fn add_line(plane: &mut PlaneWriter, s: PlaneSofar, l: Line) -> Result<(), Refus
     }
     put_line(plane, s, l);
     plane.end_row(s.width);
-    Ok(())
-}
-
-// `t` is a fact of the drawing; tested here, so that the caller has one path.
-// The same where a line stands there; else the rows are those so far.
-pub fn add_line_row(plane: &mut PlaneWriter, s: PlaneSofar, t: bool, l: Line) -> Result<(), Refusal>
-    ensures made { line_made result s plane.new ≡ choose t (add_line (line_cell l.output l.annotation l.plain s.output s.annotation) (rows_of s plane.old)) (Ok (rows_of s plane.old)) }
-    ensures same { SameSlice plane.old plane.new }
-{
-    if t {
-        return add_line(plane, s, l);
-    }
     Ok(())
 }

@@ -1,7 +1,7 @@
 -- Lines of a plane in a slice: what stands at a place of one, and the lines of the plane as lists.
 use Rattle.std.specs.Prelude.{None, Some}
 use mathlib.Core.Path.{◌≡◌, refl, ap, ◌∙◌}
-use mathlib.Core.Bool.{Bool, true, false}
+use mathlib.Core.Bool.{true}
 use mathlib.Core.List.{List, [], ◌∷◌, map}
 use Prim.Native.Nat.{ℕ, zero, suc, ◌+◌, ◌-◌, ◌≤◌, ◌<◌}
 use native.Mathlib.Omega.{arith}
@@ -14,15 +14,17 @@ use Rattle.lists.proofs.RunLaws.{build-same, drop-build, drop_build_end, map-run
 use Rattle.cells.specs.Plane.{cell_at, cells_in, row_in, plane_in}
 use Rattle.rule_numbers.specs.Numbering.{first, last}
 use Rattle.rule_numbers.specs.Line.{slot_of, line_of}
+use Rattle.rule_numbers.specs.declared.Line.{Line}
+use Rattle.rule_numbers.specs.declared.Line.TheVariants.{FirstColumn, Row}
 
-module _ (d : List ℕ) (down : Bool) (row n k : ℕ) where
-  pub line_at : k < n → drop k (line_of d down row n) ≡ slot_of d down row k ∷ drop (k + 1) (line_of d down row n)
+module _ (d : List ℕ) (line : Line) (n k : ℕ) where
+  pub line_at : k < n → drop k (line_of d line n) ≡ slot_of d line k ∷ drop (k + 1) (line_of d line n)
   unfolding line_of
-  line_at h = drop-build n (slot_of d down row) k h
+  line_at h = drop-build n (slot_of d line) k h
 
-  pub line_end : n ≤ k → drop k (line_of d down row n) ≡ []
+  pub line_end : n ≤ k → drop k (line_of d line n) ≡ []
   unfolding line_of
-  line_end h = drop_build_end n (slot_of d down row) k h
+  line_end h = drop_build_end n (slot_of d line) k h
 
 -- the ends of a built list
 first-build : {A : Type 0} (n : ℕ) (f : ℕ → A) → first (build n f) ≡ choose (ltb 0 n) (Some (f 0)) None
@@ -36,7 +38,7 @@ last-run f k zero = let e : k ≡ k + 0 = omega arith in ap (λ (j : ℕ). Some 
 last-run f k (suc n) = let e : suc k + n ≡ k + suc n = omega arith in last-run f (suc k) n ∙ ap (λ (j : ℕ). Some (f j)) e
 
 -- the first cell of a row
-pub first_cell : (d : List ℕ) (row : ℕ) → first (row_in d row) ≡ slot_of d false row 0
+pub first_cell : (d : List ℕ) (row : ℕ) → first (row_in d row) ≡ slot_of d (Row row) 0
 unfolding cells_in
 first_cell d row = first-build (get_or d row 0) (cell_at d row)
 
@@ -52,13 +54,13 @@ last_row d n h =
     ap (λ (m : ℕ). last (build m (row_in d))) e ∙ last-run (row_in d) 0 (n - 1) ∙ ap (λ (k : ℕ). Some (row_in d k)) z
 
 -- column 0
-pub column-line : (d : List ℕ) (n : ℕ) → map first (plane_in d n) ≡ line_of d true 0 n
+pub column-line : (d : List ℕ) (n : ℕ) → map first (plane_in d n) ≡ line_of d FirstColumn n
 unfolding plane_in line_of
-column-line d n = map-run first (row_in d) 0 n ∙ build-same n (λ i. first (row_in d i)) (slot_of d true 0) (λ i l. first_cell d i)
+column-line d n = map-run first (row_in d) 0 n ∙ build-same n (λ i. first (row_in d i)) (slot_of d FirstColumn) (λ i l. first_cell d i)
 
 -- a row
-pub row_line : (d : List ℕ) (row : ℕ) → map Some (row_in d row) ≡ line_of d false row (get_or d row 0)
+pub row_line : (d : List ℕ) (row : ℕ) → map Some (row_in d row) ≡ line_of d (Row row) (get_or d row 0)
 unfolding cells_in line_of
 row_line d row =
     map-run Some (cell_at d row) 0 (get_or d row 0)
-    ∙ build-same (get_or d row 0) (λ i. Some (cell_at d row i)) (slot_of d false row) (λ i l. let e = lt-ltb i (get_or d row 0) l in rw e)
+    ∙ build-same (get_or d row 0) (λ i. Some (cell_at d row i)) (slot_of d (Row row)) (λ i l. let e = lt-ltb i (get_or d row 0) l in rw e)

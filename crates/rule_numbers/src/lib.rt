@@ -6,7 +6,7 @@ ghost use Rattle.model.specs.Limits.{plane_rows};
 ghost use Rattle.cells.specs.Held.{Numbered};
 ghost use Rattle.cells.specs.Slices.{plane_of, text_of};
 ghost use Rattle.rule_numbers.specs.Numbering.{number_in, place_behind, counted, counted_behind, numbers_right, right_of, rule_numbers_of};
-ghost use Rattle.rule_numbers.specs.Line.{line_of, slot_of};
+ghost use Rattle.rule_numbers.specs.Line.{line_of, slot_of, OnPlane};
 ghost use Rattle.rule_numbers.specs.Told.{LineHeld, PlaceFits};
 
 use cells::plane::Plane;
@@ -22,38 +22,42 @@ fn number_in(texts: Texts, c: Cell) -> Option<u64>
     numerals::rule_number(texts.of(c)?)
 }
 
-// `down` and a row are a line of the plane: which cells it has, and not what is done with them.
-// The cell in row k of column 0, or in column k of a row.
-pub fn slot_at(plane: Plane, down: bool, row: usize, k: usize) -> Option<Cell>
-    requires { (row < plane_rows) × (k < plane_rows) }
-    ensures { result ≡ slot_of plane.entry.cells.now down row k }
+// A line of a plane: its first column, or a row.
+#[derive(Clone, Copy)]
+pub enum Line {
+    FirstColumn,
+    Row(usize),
+}
+
+// The cell at place k of a line.
+pub fn slot_at(plane: Plane, line: Line, k: usize) -> Option<Cell>
+    requires { OnPlane line × (k < plane_rows) }
+    ensures { result ≡ slot_of plane.entry.cells.now line k }
 {
-    if down {
-        if 0 < plane.width(k) {
-            return Some(plane.cell(k, 0));
+    match line {
+        Line::FirstColumn => {
+            if 0 < plane.width(k) {
+                return Some(plane.cell(k, 0));
+            }
+            None
         }
-        return None;
+        Line::Row(row) => {
+            if k < plane.width(row) {
+                return Some(plane.cell(row, k));
+            }
+            None
+        }
     }
-    if k < plane.width(row) {
-        return Some(plane.cell(row, k));
-    }
-    None
 }
 
 // The place behind the first cell of a kind in a line of n.
-fn place_behind(
-    plane: Plane,
-    down: bool,
-    row: usize,
-    n: usize,
-    kind: Cell,
-) -> Result<usize, Refusal>
-    requires { (row < plane_rows) × (n ≤ plane_rows) }
-    ensures place { result ≡ place_behind kind 0 (line_of plane.entry.cells.now down row n) }
+fn place_behind(plane: Plane, line: Line, n: usize, kind: Cell) -> Result<usize, Refusal>
+    requires { OnPlane line × (n ≤ plane_rows) }
+    ensures place { result ≡ place_behind kind 0 (line_of plane.entry.cells.now line n) }
     ensures inside { PlaceFits result n }
 {
     for k in 0..n {
-        let c = slot_at(plane, down, row, k).ok_or(Refusal::PlaneMalformed)?;
+        let c = slot_at(plane, line, k).ok_or(Refusal::PlaneMalformed)?;
         if kind.is_same_kind(c) {
             return Ok(k + 1);
         }
@@ -62,19 +66,13 @@ fn place_behind(
 }
 
 // The rule numbers of a line of n, from a place on.
-fn count_numbers(
-    sheet: TextPlane,
-    down: bool,
-    row: usize,
-    n: usize,
-    from: usize,
-) -> Result<u64, Refusal>
-    requires { LineHeld sheet.plane.cells.now down row n sheet.texts.count × (from ≤ n) }
-    ensures { result ≡ counted (text_of sheet.entry.texts) 0 (drop from (line_of sheet.entry.plane.cells.now down row n)) }
+fn count_numbers(sheet: TextPlane, line: Line, n: usize, from: usize) -> Result<u64, Refusal>
+    requires { LineHeld sheet.plane.cells.now line n sheet.texts.count × (from ≤ n) }
+    ensures { result ≡ counted (text_of sheet.entry.texts) 0 (drop from (line_of sheet.entry.plane.cells.now line n)) }
 {
     let mut m: u64 = 0;
     for k in from..n {
-        let c = slot_at(sheet.plane, down, row, k).ok_or(Refusal::PlaneMalformed)?;
+        let c = slot_at(sheet.plane, line, k).ok_or(Refusal::PlaneMalformed)?;
         let Some(x) = number_in(sheet.texts, c) else {
             return Ok(0);
         };
@@ -87,18 +85,12 @@ fn count_numbers(
 }
 
 // The rule numbers behind the first cell of a kind in a line of n.
-fn count_behind(
-    sheet: TextPlane,
-    down: bool,
-    row: usize,
-    n: usize,
-    kind: Cell,
-) -> Result<u64, Refusal>
-    requires { LineHeld sheet.plane.cells.now down row n sheet.texts.count }
-    ensures { result ≡ counted_behind (text_of sheet.entry.texts) kind (line_of sheet.entry.plane.cells.now down row n) }
+fn count_behind(sheet: TextPlane, line: Line, n: usize, kind: Cell) -> Result<u64, Refusal>
+    requires { LineHeld sheet.plane.cells.now line n sheet.texts.count }
+    ensures { result ≡ counted_behind (text_of sheet.entry.texts) kind (line_of sheet.entry.plane.cells.now line n) }
 {
-    let k = place_behind(sheet.plane, down, row, n, kind)?;
-    count_numbers(sheet, down, row, n, k)
+    let k = place_behind(sheet.plane, line, n, kind)?;
+    count_numbers(sheet, line, n, k)
 }
 
 // Rule numbers along the last row.
@@ -110,8 +102,7 @@ fn numbers_right(sheet: TextPlane) -> Result<RuleNumbersPlacement, Refusal>
     let last = plane.rows - 1;
     let m = count_behind(
         sheet,
-        false,
-        last,
+        Line::Row(last),
         plane.width(last),
         Cell::VerticalOutputDoubleLine,
     )?;
@@ -127,7 +118,12 @@ pub fn rule_numbers(sheet: TextPlane) -> Result<RuleNumbersPlacement, Refusal>
     ensures { result ≡ rule_numbers_of (text_of sheet.entry.texts) (plane_of sheet.entry.plane) }
 {
     let plane = sheet.plane;
-    let m = count_behind(sheet, true, 0, plane.rows, Cell::HorizontalOutputDoubleLine)?;
+    let m = count_behind(
+        sheet,
+        Line::FirstColumn,
+        plane.rows,
+        Cell::HorizontalOutputDoubleLine,
+    )?;
     if 0 < m {
         return Ok(RuleNumbersPlacement::LeftBelow(m));
     }

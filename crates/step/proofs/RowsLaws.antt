@@ -1,7 +1,7 @@
 -- A row of GRID is added to the plane, and the rows of GRID one after the other.
 use Rattle.std.specs.Prelude.{Ok, Err, None}
 use mathlib.Core.Path.{◌≡◌, refl, sym, ap, ◌∙◌}
-use mathlib.Core.Bool.{Bool, true}
+use mathlib.Core.Bool.{true}
 use mathlib.Core.List.{List}
 use Prim.Native.Nat.{ℕ, ◌+◌, ◌-◌, ◌≤◌, ◌<◌}
 use native.Mathlib.Nat.{sub-zero}
@@ -25,38 +25,34 @@ use Rattle.regions.specs.Regions.{Finder}
 use Rattle.walks.specs.Frame.{frame_of}
 use Rattle.walks.specs.Kinds.{grid}
 use Rattle.plane_cells.specs.Row.{is_at}
-use Rattle.plane_rows.specs.Made.{rows_of, line_made, line_cell}
+use Rattle.plane_rows.specs.Made.{rows_of, line_cell}
 use Rattle.plane_rows.proofs.LineLaws.{below_line}
 use Rattle.plane_rows.specs.Rows.{Rows, annotation_line, add_line}
 use Rattle.plane_rows.specs.declared.sofar.PlaneSofar.{PlaneSofar}
 use Rattle.step.specs.Made.{rows_made, Over}
 use Rattle.step.specs.PlaneStep.{add_frames, add_grid_row, rows_by, plane_by, plane_of}
 
--- row y of GRID: the line row of the main crossing answered r1, that of the annotation crossing r2
+-- the rows s of a writer with the line row of the main crossing, where it stands in row y, and with that of the annotation crossing
+module _ (o : Outline) (y : ℕ) (s : PlaneSofar) (d : PlaneWriter) where
+  abbrev pub main_line : Reading Rows
+  main_line = choose (eqb y o.y) (add_line (line_cell MainDoubleCrossing HorizontalDoubleCrossing HorizontalOutputDoubleLine s.output s.annotation) (rows_of s d)) (Ok (rows_of s d))
+
+  abbrev pub line_below : Reading Rows
+  line_below =
+      choose (is_at o.below y) (add_line (line_cell VerticalDoubleCrossing HorizontalAnnotationsDoubleLine HorizontalAnnotationsDoubleLine s.output s.annotation) (rows_of s d)) (Ok (rows_of s d))
+
+-- row y of GRID: both line rows, and the row of its frames
 module _ (o : Outline) (find : Finder) (regions : List Rect) (p : Picture) (w y : ℕ) (s : PlaneSofar) (d : PlaneWriter) where
   abbrev whole : Reading Rows
   whole = add_grid_row o find regions p w y (rows_of s d)
 
-  abbrev below : Rows → Reading Rows
-  below a = ◌>>=◌ (choose (is_at o.below y) (add_line (annotation_line a.output) a) (Ok a)) (add_frames o find regions p w y)
+  abbrev behind : Rows → Reading Rows
+  behind a = ◌>>=◌ (choose (is_at o.below y) (add_line (annotation_line a.output) a) (Ok a)) (add_frames o find regions p w y)
 
-  module _ (r1 : Reading (Unit {0})) (d1 : PlaneWriter) (e1 : line_made r1 s d1 ≡ choose (eqb y o.y) (add_line (line_cell MainDoubleCrossing HorizontalDoubleCrossing HorizontalOutputDoubleLine s.output s.annotation) (rows_of s d)) (Ok (rows_of s d))) where
-    first : {m : (Reading (Unit {0}))} → r1 ≡ m → whole ≡ ◌>>=◌ (line_made m s d1) below
-    first z = ap (λ (a : Reading Rows). ◌>>=◌ a below) (sym e1 ∙ ap (λ (m : Reading (Unit {0})). line_made m s d1) z)
-
-    pub main_out : (f : Refusal) → r1 ≡ Err f → Err f ≡ whole
-    main_out f z = sym (first z)
-
-    module _ (u1 : Unit {0}) (z1 : r1 ≡ Ok u1) (u : Bool) (q : u ≡ is_at o.below y) (r2 : Reading (Unit {0})) (d2 : PlaneWriter)
-        (e2 : line_made r2 s d2 ≡ choose u (add_line (line_cell VerticalDoubleCrossing HorizontalAnnotationsDoubleLine HorizontalAnnotationsDoubleLine s.output s.annotation) (rows_of s d1)) (Ok (rows_of s d1))) where
-      second : {m : (Reading (Unit {0}))} → r2 ≡ m → whole ≡ ◌>>=◌ (line_made m s d2) (add_frames o find regions p w y)
-      second z = first z1 ∙ rw (← q, ← below_line s.output s.annotation) (ap (λ (b : Reading Rows). ◌>>=◌ b (add_frames o find regions p w y)) (sym e2 ∙ ap (λ (m : Reading (Unit {0})). line_made m s d2) z))
-
-      pub below_out : (f : Refusal) → r2 ≡ Err f → Err f ≡ whole
-      below_out f z = sym (second z)
-
-      pub lines_added : (u2 : Unit {0}) → r2 ≡ Ok u2 → add_frames o find regions p w y (rows_of s d2) ≡ whole
-      lines_added u2 z = sym (second z)
+  module _ (d1 : PlaneWriter) (e : Ok (rows_of s d1) ≡ main_line o y s d) where
+    pub lines_added : (d2 : PlaneWriter) → Ok (rows_of s d2) ≡ line_below o y s d1 → add_frames o find regions p w y (rows_of s d2) ≡ whole
+    lines_added d2 q =
+        ap (λ (a : Reading Rows). ◌>>=◌ a (add_frames o find regions p w y)) q ∙ rw (below_line s.output s.annotation) (ap (λ (a : Reading Rows). ◌>>=◌ a behind) e)
 
 -- the rows of GRID above row y are added: the rows are a
 pub record Growing (o : Outline) (w h count : ℕ) (l found : List ℕ) (d out : PlaneWriter) (y : ℕ) (a : Rows) : Type 0 where

@@ -53,7 +53,7 @@ fn add_frame(
 {
     let k = n.found[at.y * n.grid.width + at.x] as usize;
     if k < n.count {
-        return plane_cells::add_cells(n.outline, at.x, k, plane, s);
+        return plane_cells::add_cells(n.outline, at.x, k, plane.cells, plane.rows, s);
     }
     Err(why_none(n.grid, at))
 }
@@ -130,8 +130,12 @@ fn add_grid_row(
     ensures same { SameSlice plane.old plane.new }
 {
     let o = n.outline;
-    plane_rows::add_line_row(plane, s, y == o.y, line::MAIN)?;
-    plane_rows::add_line_row(plane, s, plane_cells::is_at(o.below, y), line::ANNOTATIONS)?;
+    if y == o.y {
+        plane_rows::add_line(plane, s, line::MAIN)?;
+    }
+    if plane_cells::is_at(o.below, y) {
+        plane_rows::add_line(plane, s, line::ANNOTATIONS)?;
+    }
     add_frames(n, y, plane, s)
 }
 

@@ -97,6 +97,7 @@ pub fn upright(o: Orientation, plane: Plane, out: &mut [u32]) -> Result<usize, R
     ensures turned { turned_in result out.new ≡ upright_of o (plane_of plane.entry) }
     ensures fits { TurnedFits result out.new }
 {
+    // One writer for both ways: made in each of them, it would be ended in each too.
     let mut sheet = PlaneWriter {
         cells: out,
         rows: 0,

@@ -1,82 +1,64 @@
 -- `plane_cells::add_cells` meets its contract.
+use Rattle.std.specs.Prelude.{Some}
 use mathlib.Core.Path.{◌≡◌, ap, ◌∙◌}
 use mathlib.Core.Bool.{Bool}
-use Prim.Native.Nat.{◌+◌, ◌<◌}
+use mathlib.Core.List.{[], ◌∷◌, ◌++◌}
+use Prim.Native.Nat.{◌+◌}
 use native.Mathlib.Omega.{arith}
 use lib.Dec.{eqb}
+use borrow.Author.Tests.{eq-eqb, ne_eqb}
 use Rattle.lists.specs.Choose.{choose}
-use Rattle.model.specs.Limits.{plane_rows, plane_cells}
-use Rattle.cells.proofs.WriterLaws.{same_kept, then_kept}
+use Rattle.model.specs.declared.Cell.TheVariants.{VerticalOutputDoubleLine, VerticalAnnotationDoubleLine}
+use Rattle.cells.specs.Plane.{cells_in}
 use Rattle.plane_cells.specs.Row.{is_at}
-use Rattle.plane_cells.proofs.CellLaws.{one_few, row_over, cells_over, cells_added}
+use Rattle.plane_cells.proofs.CellLaws.{one_if, line_there, no_line, cells_over, cells_added}
 use Rattle.plane_cells.proofs.add_cells.Goals as goal
-use Rattle.plane_cells.proofs.add_cells.Goals.{After-add_line_if-a, After-add_line_if-b, After-one_if-2}
+use Rattle.plane_cells.proofs.add_cells.Goals.{After-from-2, Joined-is_annotation-2, then-is_output, else-is_output, then-is_annotation, else-is_annotation, then-is_output-2, else-is_output-2, then-is_annotation-2, else-is_annotation-2}
 
-low : (c : After-one_if-2) → c.args.plane.now.rows < plane_rows
-low c = c.if-plane-ge-PLANE_ROWS.false
+output_one : (c : After-from-2) → c.from.result ≡ choose (eqb c.args.x c.args.o.x) 1 0
+output_one c = c.from.ensures ∙ one_if _
 
-told : (c : After-one_if-2) → c.is_at-is_annotation.result ≡ (is_at c.args.o.right c.args.x)
-told c = c.is_at-is_annotation.ensures
+annotation_one : (c : After-from-2) → c.from-2.result ≡ choose (is_at c.args.o.right c.args.x) 1 0
+annotation_one c = c.from-2.ensures ∙ one_if _ ∙ ap (λ (b : Bool). choose b 1 0) c.is_at-is_annotation.ensures
 
-output_one : (c : After-one_if-2) → c.one_if.result ≡ choose (eqb c.args.x c.args.o.x) 1 0
-output_one c = c.one_if.ensures
+pub returns-then-b-ge-PLANE_CELLS-clause-made : goal.returns-then-b-ge-PLANE_CELLS-clause-made
+returns-then-b-ge-PLANE_CELLS-clause-made c =
+    let k = (goal.at.returns-then-b-ge-PLANE_CELLS-clause-made c).After-from-2 in
+    cells_over c.args.o c.args.x c.args.region c.args.row c.args.s c.args.plane.now c.if-row-ge-PLANE_ROWS.false (omega (arith, output_one k, annotation_one k, c.if-b-ge-PLANE_CELLS.true))
 
-annotation_one : (c : After-one_if-2) → c.one_if-2.result ≡ choose (is_at c.args.o.right c.args.x) 1 0
-annotation_one c = c.one_if-2.ensures ∙ ap (λ (b : Bool). choose b 1 0) (told c)
+output_line : (c : Joined-is_annotation-2) → cells_in c.if-is_output.plane c.args.row (c.args.s.cells + c.from.result)
+    ≡ cells_in c.args.plane.now c.args.row c.args.s.cells ++ choose (eqb c.args.x c.args.o.x) (VerticalOutputDoubleLine ∷ []) []
+output_line c =
+    elim c.if-is_output.branch [
+      | then-is_output w ↦ rw w.plane-is (line_there _ _ _ _ _ _ _ c.from.ensures (eq-eqb _ _ w.if-is_output.true) w.put_cell.ensures.cells)
+      | else-is_output w ↦ rw w.plane-is (no_line _ _ _ _ _ _ c.from.ensures (ne_eqb _ _ w.if-is_output.false))
+    ]
 
-ends : (a : After-add_line_if-a) → a.add_line_if-a.result ≡ a.args.s.cells + choose (eqb a.args.x a.args.o.x) 1 0
-ends a = a.add_line_if-a.ensures.ends
+annotation_line : (c : Joined-is_annotation-2) → cells_in c.if-is_annotation.plane c.args.row (c.args.s.cells + c.from.result + c.from-2.result)
+    ≡ cells_in c.if-is_output.plane c.args.row (c.args.s.cells + c.from.result) ++ choose c.is_at-is_annotation.result (VerticalAnnotationDoubleLine ∷ []) []
+annotation_line c =
+    elim c.if-is_annotation.branch [
+      | then-is_annotation w ↦ rw w.plane-is (line_there _ _ _ _ _ _ _ c.from-2.ensures w.if-is_annotation.true w.put_cell-then-is_annotation.ensures.cells)
+      | else-is_annotation w ↦ rw w.plane-is (no_line _ _ _ _ _ _ c.from-2.ensures w.if-is_annotation.false)
+    ]
 
-ends_2 : (b : After-add_line_if-b) → b.add_line_if-b.result ≡ b.add_line_if-a.result + choose (is_at b.args.o.right b.args.x) 1 0
-ends_2 b = b.add_line_if-b.ensures.ends ∙ ap (λ (u : Bool). b.add_line_if-a.result + choose u 1 0) b.is_at-is_annotation.ensures
+output_column : (c : Joined-is_annotation-2) → c.if-is_output-2.output ≡ choose (eqb c.args.x c.args.o.x) (Some c.args.s.cells) c.args.s.output
+output_column c =
+    elim c.if-is_output-2.branch [
+      | then-is_output-2 w ↦ w.output-is ∙ rw (eq-eqb _ _ w.if-is_output-2.true)
+      | else-is_output-2 w ↦ w.output-is ∙ rw (ne_eqb _ _ w.if-is_output-2.false)
+    ]
 
--- the frame's own cell fits behind the double lines
-room : (b : After-add_line_if-b) → b.add_line_if-b.result < plane_cells
-room b =
-    let n : b.one_if-2.result ≡ choose (is_at b.args.o.right b.args.x) 1 0 = b.one_if-2.ensures ∙ ap (λ (u : Bool). choose u 1 0) b.is_at-is_annotation.ensures in
-    omega (arith, b.if-from-one_if-gt-PLANE_CELLS.false, b.add_line_if-a.ensures.ends, ends_2 b, b.one_if.ensures, n)
+annotation_column : (c : Joined-is_annotation-2) → c.if-is_annotation-2.annotation ≡ choose c.is_at-is_annotation.result (Some (c.args.s.cells + c.from.result)) c.args.s.annotation
+annotation_column c =
+    elim c.if-is_annotation-2.branch [
+      | then-is_annotation-2 w ↦ w.annotation-is ∙ rw w.if-is_annotation-2.true
+      | else-is_annotation-2 w ↦ w.annotation-is ∙ rw w.if-is_annotation-2.false
+    ]
 
-pub returns-then-plane-ge-PLANE_ROWS : goal.returns-then-plane-ge-PLANE_ROWS
-returns-then-plane-ge-PLANE_ROWS c =
-    record { made = row_over c.args.o c.args.x c.args.region c.args.s c.args.plane.now c.if-plane-ge-PLANE_ROWS.true; fits = tt; kept = same_kept c.args.plane.now }
-
-pub overflow_add-from : goal.overflow_add-from
-overflow_add-from c =
-    omega (arith, c.requires.1.few, c.one_if.ensures, one_few (eqb c.args.x c.args.o.x))
-
-pub overflow_add-from-2 : goal.overflow_add-from-2
-overflow_add-from-2 c = omega (arith, output_one c, annotation_one c, c.requires.1.few, one_few (eqb c.args.x c.args.o.x), one_few (is_at c.args.o.right c.args.x))
-
-pub overflow_add-from-3 : goal.overflow_add-from-3
-overflow_add-from-3 c = omega (arith, output_one c, annotation_one c, c.requires.1.few, one_few (eqb c.args.x c.args.o.x), one_few (is_at c.args.o.right c.args.x))
-
-pub returns-then-from-one_if-gt-PLANE_CELLS : goal.returns-then-from-one_if-gt-PLANE_CELLS
-returns-then-from-one_if-gt-PLANE_CELLS c =
-    record { made = cells_over c.args.o c.args.x c.args.region c.args.s c.args.plane.now (low (goal.at.returns-then-from-one_if-gt-PLANE_CELLS c).After-one_if-2) (omega (arith, output_one (goal.at.returns-then-from-one_if-gt-PLANE_CELLS c).After-one_if-2, annotation_one (goal.at.returns-then-from-one_if-gt-PLANE_CELLS c).After-one_if-2, c.if-from-one_if-gt-PLANE_CELLS.true)); fits = tt; kept = same_kept c.args.plane.now }
-
-pub add_line_if-a-requires : goal.add_line_if-a-requires
-add_line_if-a-requires c =
-    (low (goal.at.add_line_if-a-requires c).After-one_if-2, (λ e. omega (arith, c.if-from-one_if-gt-PLANE_CELLS.false)), omega arith)
-
-pub add_line_if-b-requires : goal.add_line_if-b-requires
-add_line_if-b-requires c =
-    (omega (arith, c.add_line_if-a.ensures.kept.rows, low (goal.at.add_line_if-b-requires c).After-one_if-2), (λ e. omega (arith, c.if-from-one_if-gt-PLANE_CELLS.false, ends (goal.at.add_line_if-b-requires c).After-add_line_if-a, output_one (goal.at.add_line_if-b-requires c).After-one_if-2)), omega arith)
-
-pub put_cell-requires : goal.put_cell-requires
-put_cell-requires c =
-    (omega (arith, c.add_line_if-a.ensures.kept.rows, c.add_line_if-b.ensures.kept.rows, low (goal.at.put_cell-requires c).After-one_if-2), room (goal.at.put_cell-requires c).After-add_line_if-b, omega (arith, c.requires.0))
-
-pub overflow_add-result : goal.overflow_add-result
-overflow_add-result c = omega (arith, room (goal.at.overflow_add-result c).After-add_line_if-b)
-
-pub returns : goal.returns
-returns c =
-    let k = then_kept (then_kept c.add_line_if-a.ensures.kept c.add_line_if-b.ensures.kept) c.put_cell.ensures.kept in
-    let o = (goal.at.returns c).After-one_if-2 in
-    record {
-      made = cells_added c.args.o c.args.x c.args.region c.args.s c.args.plane.now c.is_at-is_annotation.result (told o) (low o)
-          (omega (arith, c.if-from-one_if-gt-PLANE_CELLS.false, output_one o, annotation_one o)) c.add_line_if-a.result c.add_line_if-b.result c.add_line_if-a.new.plane c.add_line_if-b.new.plane c.put_cell.new.self
-          c.add_line_if-a.ensures.cells c.add_line_if-b.ensures.cells c.put_cell.ensures.cells c.column_if-output.ensures c.column_if-annotation.ensures;
-      fits = record { few = omega (arith, room (goal.at.returns c).After-add_line_if-b); low = λ z. omega (arith, k.rows, low o) };
-      kept = k;
-    }
+pub returns-clause-made : goal.returns-clause-made
+returns-clause-made c =
+    let k = (goal.at.returns-clause-made c).After-from-2 in
+    cells_added c.args.o c.args.x c.args.region c.args.row c.args.s c.args.plane.now c.is_at-is_annotation.result c.is_at-is_annotation.ensures c.if-row-ge-PLANE_ROWS.false
+    (omega (arith, c.if-b-ge-PLANE_CELLS.false, output_one k, annotation_one k)) (c.args.s.cells + c.from.result) (c.args.s.cells + c.from.result + c.from-2.result) _ _ _
+    (output_line c) (annotation_line c) c.put_cell-2.ensures.cells (output_column c) (annotation_column c)

@@ -8,7 +8,7 @@ use native.Mathlib.Omega.{arith}
 use Rattle.rule_numbers.proofs.count_numbers.Goals as goal
 
 pub loop-k-init : goal.loop-k-init
-loop-k-init c = count-start _ _ _ _ _ _ c.requires.1
+loop-k-init c = count-start _ _ _ _ _ c.requires.1
 
 pub returns-in_err-c : goal.returns-in_err-c
 returns-in_err-c c =

@@ -3,4 +3,4 @@ use Rattle.rule_numbers.proofs.CountLaws.{Counts}
 use Rattle.rule_numbers.proofs.count_numbers.Given as goal
 
 abbrev pub invariant-loop-k : goal.invariant-loop-k
-invariant-loop-k l = Counts (text_of l.sheet.texts) l.sheet.plane.cells.now l.down l.row l.n l.from l.k l.m
+invariant-loop-k l = Counts (text_of l.sheet.texts) l.sheet.plane.cells.now l.line l.n l.from l.k l.m

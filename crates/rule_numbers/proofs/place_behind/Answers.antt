@@ -8,7 +8,7 @@ use borrow.Author.Rules.{rules}
 use Rattle.rule_numbers.proofs.place_behind.Goals as goal
 
 pub loop-k-init : goal.loop-k-init
-loop-k-init c = look_start _ _ _ _ _
+loop-k-init c = look_start _ _ _ _
 
 pub returns-in_err-c : goal.returns-in_err-c
 returns-in_err-c c =

@@ -1,6 +1,6 @@
 -- `step::add_frame` meets its contract.
 use Rattle.std.specs.Prelude.{Err}
-use mathlib.Core.Path.{ap, ◌∙◌}
+use mathlib.Core.Path.{refl, ap, ◌∙◌}
 use Prim.Native.Nat.{◌+◌, ◌*◌, ◌<◌}
 use native.Mathlib.Omega.{arith}
 use lib.ListN.{length}
@@ -31,7 +31,7 @@ bounds-n-at c = inside (goal.at.bounds-n-at c).Start
 
 pub add_cells-requires : goal.add_cells-requires
 add_cells-requires c =
-    (omega (arith, c.if-k-n.true, c.args.n.few), c.requires.1)
+    (omega (arith, c.if-k-n.true, c.args.n.few), c.requires.1, c.args.plane.now.fits.room)
 
 pub returns-then-k-n : goal.returns-then-k-n
 returns-then-k-n c =
@@ -40,7 +40,7 @@ returns-then-k-n c =
           c.add_cells.ensures.made
           ∙ with_region a.n.outline (frames_in c.args.n) rs a.plane.now.rows a.at.y a.at.x (row_of c.args.s c.args.plane.now) _ (number_at (frames_in c.args.n) rs a.n.grid.width a.n.grid.height a.n.grid.codes.now a.n.found.now a.at.x a.at.y c.requires.0.column c.requires.0.row c.requires.2 m) (omega (arith, n, c.if-k-n.true));
       fits = c.add_cells.ensures.fits;
-      kept = c.add_cells.ensures.kept;
+      kept = record { same = refl; rows = refl; before = c.add_cells.ensures.before };
     }
 
 pub why_none-requires : goal.why_none-requires

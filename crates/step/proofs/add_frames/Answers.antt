@@ -43,4 +43,4 @@ pub returns-in_err-t : goal.returns-in_err-t
 returns-in_err-t c =
     let p = err_from_is_err_and c.from_residual.result c.from_residual.ensures.1 in
     let a = c.args in
-    rw (p.1, p.2) (record { made = λ rs n q. frames_out a.n.outline (frames_in c.args.n) rs (picture_of a.n.grid) a.n.grid.width a.y a.s a.plane.now _ _ (c.make_row.ensures.made rs n q) _ c.in_err-t.was; same = c.make_row.ensures.kept.same })
+    rw (p.1, p.2) (record { made = λ rs n q. frames_out a.n.outline (frames_in c.args.n) rs (picture_of a.n.grid) a.n.grid.width a.y a.s a.plane.now c.make_row.new.plane _ (c.make_row.ensures.made rs n q) _ c.in_err-t.was; same = c.make_row.ensures.kept.same })

@@ -1,31 +1,32 @@
 -- `step::add_grid_row` meets its contract.
-use Rattle.std.proofs.lemmas.Result.{err_from_is_err_and}
-use mathlib.Core.Path.{◌∙◌}
+use Rattle.std.specs.Prelude.{Ok}
+use mathlib.Core.Path.{◌≡◌, sym, ap, ◌∙◌}
+use borrow.Author.Tests.{eq-eqb, ne_eqb}
 use Rattle.model.specs.Layers.{picture_of}
+use Rattle.plane_rows.specs.Made.{rows_of, line_made}
 use Rattle.step.specs.Made.{frames_in}
-use Rattle.step.proofs.RowsLaws.{main_out, below_out, lines_added}
+use Rattle.step.proofs.RowsLaws.{main_line, line_below, lines_added}
 use Rattle.step.proofs.add_grid_row.Goals as goal
+use Rattle.step.proofs.add_grid_row.Goals.{After-add_frames, then-y-o+in_ok-add_line, else-y-o, then-is_at+in_ok-add_line-2, else-is_at}
 
-pub returns-in_err-add_line_row : goal.returns-in_err-add_line_row
-returns-in_err-add_line_row c =
-    let p = err_from_is_err_and c.from_residual.result c.from_residual.ensures.1 in
+-- the line row of the main crossing, or none
+first : (c : After-add_frames) → Ok (rows_of c.args.s c.if-y-o.plane) ≡ main_line c.args.n.outline c.args.y c.args.s c.args.plane.now
+first c =
+    elim c.if-y-o.branch [
+      | then-y-o+in_ok-add_line w ↦ rw (w.plane-is, eq-eqb _ _ w.if-y-o.true) (sym (ap (λ r. line_made r c.args.s w.add_line.new.plane) w.in_ok-add_line.was) ∙ w.add_line.ensures.made)
+      | else-y-o w ↦ rw (w.plane-is, ne_eqb _ _ w.if-y-o.false)
+    ]
+
+-- that of the annotation crossing, or none
+second : (c : After-add_frames) → Ok (rows_of c.args.s c.if-is_at.plane) ≡ line_below c.args.n.outline c.args.y c.args.s c.if-y-o.plane
+second c =
+    elim c.if-is_at.branch [
+      | then-is_at+in_ok-add_line-2 w ↦ rw (w.plane-is, sym c.is_at.ensures ∙ w.if-is_at.true) (sym (ap (λ r. line_made r c.args.s w.add_line-then-is_at.new.plane) w.in_ok-add_line-2.was) ∙ w.add_line-then-is_at.ensures.made)
+      | else-is_at w ↦ rw (w.plane-is, sym c.is_at.ensures ∙ w.if-is_at.false)
+    ]
+
+pub returns-clause-made : goal.returns-clause-made
+returns-clause-made c =
     let a = c.args in
-    rw (p.1, p.2) (record { made = λ rs n m. main_out a.n.outline (frames_in c.args.n) rs (picture_of a.n.grid) a.n.grid.width a.y a.s a.plane.now _ _ c.add_line_row.ensures.made _ c.in_err-add_line_row.was; same = c.add_line_row.ensures.same })
-
-pub returns-in_err-add_line_row-2 : goal.returns-in_err-add_line_row-2
-returns-in_err-add_line_row-2 c =
-    let p = err_from_is_err_and c.from_residual-in_err-add_line_row-2.result c.from_residual-in_err-add_line_row-2.ensures.1 in
-    let a = c.args in
-    rw (p.1, p.2) (record { made = λ rs n m. below_out a.n.outline (frames_in c.args.n) rs (picture_of a.n.grid) a.n.grid.width a.y a.s a.plane.now _ _ c.add_line_row.ensures.made _ c.in_ok-add_line_row.was _ c.is_at.ensures _ _ c.add_line_row-2.ensures.made _ c.in_err-add_line_row-2.was; same = c.add_line_row-2.ensures.same ∙ c.add_line_row.ensures.same })
-
-pub add_frames-requires : goal.add_frames-requires
-add_frames-requires c = c.requires
-
-pub returns : goal.returns
-returns c =
-    let a = c.args in
-    record {
-      made = λ rs n m. c.add_frames.ensures.made rs n m
-          ∙ lines_added a.n.outline (frames_in c.args.n) rs (picture_of a.n.grid) a.n.grid.width a.y a.s a.plane.now _ _ c.add_line_row.ensures.made _ c.in_ok-add_line_row.was _ c.is_at.ensures _ _ c.add_line_row-2.ensures.made _ c.in_ok-add_line_row-2.was;
-      same = c.add_frames.ensures.same ∙ c.add_line_row-2.ensures.same ∙ c.add_line_row.ensures.same;
-    }
+    λ rs n m. c.add_frames.ensures.made rs n m
+    ∙ lines_added a.n.outline (frames_in c.args.n) rs (picture_of a.n.grid) a.n.grid.width a.y a.s a.plane.now c.if-y-o.plane (first c) c.if-is_at.plane (second c)
