@@ -7,29 +7,13 @@ ghost use Rattle.walks.specs.Frame.{Place, close_of, frame_of};
 ghost use Rattle.walks.specs.Kinds.{thin, grid, name};
 ghost use Rattle.walks.specs.declared.Direction.TheVariants.{Right, Down};
 ghost use Rattle.along.specs.Characters.{kind_of, along_of};
-ghost use Rattle.along.specs.declared.Lines.TheVariants.{Body, Crossing};
+ghost use Rattle.along.specs.declared.Lines.TheVariants.{Crossing};
 ghost use Rattle.frames.specs.Body.{body_of};
-ghost use Rattle.frames.specs.Answers.{all_of, closed_of};
 
 use along::Lines;
 use model::layer::Layer;
 use model::{Point, Rect, Refusal};
 use walks::Direction;
-
-// The last of four walks, or the first refusal.
-fn all(
-    a: Result<usize, Refusal>,
-    b: Result<usize, Refusal>,
-    c: Result<usize, Refusal>,
-    d: Result<usize, Refusal>,
-) -> Result<usize, Refusal>
-    ensures { result ≡ all_of a b c d }
-{
-    a?;
-    b?;
-    c?;
-    d
-}
 
 // The four walks of a frame ended at a place; its bottom right corner is another.
 fn close(at: Point, corner: Point, end: Point) -> Result<Rect, Refusal>
@@ -47,24 +31,6 @@ fn close(at: Point, corner: Point, end: Point) -> Result<Rect, Refusal>
     Err(Refusal::RectangleNotClosed(end.x, end.y))
 }
 
-// What four walks found: the rect from one place to its bottom right corner, if they ended where it begins; or their
-// first refusal.
-fn closed(
-    at: Point,
-    corner: Point,
-    end: Point,
-    right: Result<usize, Refusal>,
-    down: Result<usize, Refusal>,
-    left: Result<usize, Refusal>,
-    up: Result<usize, Refusal>,
-) -> Result<Rect, Refusal>
-    requires { (corner.x + 1 < 2 ^ 64) × (corner.y + 1 < 2 ^ 64) }
-    ensures { result ≡ closed_of at.x at.y corner.x corner.y end.x end.y right down left up }
-{
-    all(right, down, left, up)?;
-    close(at, corner, end)
-}
-
 // The frame along lines that starts at a place: one cursor goes around it. It is inlined into each caller, so that its
 // walks are compiled with its characters.
 #[inline(always)]
@@ -73,12 +39,12 @@ fn frame(layer: Layer, at: Point, lines: Lines) -> Result<Rect, Refusal>
     ensures { result ≡ frame_of (kind_of lines) (picture_of layer.entry) layer.entry.width layer.entry.height at.x at.y }
 {
     let mut cursor = at;
-    let right = cursors::search(Direction::Right, layer, &mut cursor, lines);
-    let down = cursors::search(Direction::Down, layer, &mut cursor, lines);
+    cursors::search(Direction::Right, layer, &mut cursor, lines)?;
+    cursors::search(Direction::Down, layer, &mut cursor, lines)?;
     let corner = cursor;
-    let left = cursors::search(Direction::Left, layer, &mut cursor, lines);
-    let up = cursors::search(Direction::Up, layer, &mut cursor, lines);
-    closed(at, corner, cursor, right, down, left, up)
+    cursors::search(Direction::Left, layer, &mut cursor, lines)?;
+    cursors::search(Direction::Up, layer, &mut cursor, lines)?;
+    close(at, corner, cursor)
 }
 
 // The region that starts at a place of THIN.
@@ -105,40 +71,6 @@ pub fn recognize_name(layer: Layer) -> Result<Rect, Refusal>
     frame(layer, Point { x: 0, y: 0 }, Lines::Name)
 }
 
-// The rect whose sides four walks from a place come to: the cursor is set back there after each.
-fn sides(layer: Layer, at: Point, lines: Lines) -> Result<Rect, Refusal>
-    requires { Place layer.width layer.height at.x at.y × (lines ≡ Body) }
-    ensures { result ≡ body_of (picture_of layer.entry) layer.entry.width layer.entry.height at.x at.y }
-{
-    let mut cursor = at;
-    let up = cursors::search(Direction::Up, layer, &mut cursor, lines);
-    let top = cursor.y;
-    cursor = at;
-    let down = cursors::search(Direction::Down, layer, &mut cursor, lines);
-    let bottom = cursor.y;
-    cursor = at;
-    let left = cursors::search(Direction::Left, layer, &mut cursor, lines);
-    let start = Point {
-        x: cursor.x,
-        y: top,
-    };
-    cursor = at;
-    let right = cursors::search(Direction::Right, layer, &mut cursor, lines);
-    let corner = Point {
-        x: cursor.x,
-        y: bottom,
-    };
-    closed(start, corner, start, up, down, left, right)
-}
-
-// The body of the table whose main crossing stands at a place.
-pub fn recognize_body(layer: Layer, at: Point) -> Result<Rect, Refusal>
-    requires { Place layer.width layer.height at.x at.y }
-    ensures { result ≡ body_of (picture_of layer.entry) layer.entry.width layer.entry.height at.x at.y }
-{
-    sides(layer, at, Lines::Body)
-}
-
 // A walk from a place, on a cursor of its own.
 #[inline(always)]
 fn walk_from(d: Direction, layer: Layer, at: Point, lines: Lines) -> Result<usize, Refusal>
@@ -147,6 +79,23 @@ fn walk_from(d: Direction, layer: Layer, at: Point, lines: Lines) -> Result<usiz
 {
     let mut cursor = at;
     cursors::search(d, layer, &mut cursor, lines)
+}
+
+// The body of the table whose main crossing stands at a place: its sides are as far off as four walks come.
+pub fn recognize_body(layer: Layer, at: Point) -> Result<Rect, Refusal>
+    requires { Place layer.width layer.height at.x at.y }
+    ensures { result ≡ body_of (picture_of layer.entry) layer.entry.width layer.entry.height at.x at.y }
+{
+    let up = walk_from(Direction::Up, layer, at, Lines::Body)?;
+    let down = walk_from(Direction::Down, layer, at, Lines::Body)?;
+    let left = walk_from(Direction::Left, layer, at, Lines::Body)?;
+    let right = walk_from(Direction::Right, layer, at, Lines::Body)?;
+    Ok(Rect {
+        left: at.x - left,
+        top: at.y - up,
+        right: at.x + right + 1,
+        bottom: at.y + down + 1,
+    })
 }
 
 // The walk to an annotation crossing on the right of a place.
