@@ -10,10 +10,12 @@ ghost use Rattle.outline.specs.Answers.{WalkFits};
 use model::box_drawing::*;
 use model::layer::Layer;
 use model::{Point, Rect, Refusal};
+use walks::spot::Spot;
 
 // Whether a name stands above the table; the main crossing's column and row; the column of the annotation crossing
 // on its right and the row of that below it; the body.
-// `named` is a fact of the drawing: no value hangs on it.
+// `named` is a fact of the drawing: no value hangs on it. `x` and `y` are read apart: `x` by the cells of a row of the
+// plane, `y` by its rows.
 #[derive(Clone, Copy)]
 pub struct Outline {
     pub named: bool,
@@ -55,10 +57,8 @@ fn crossed(from: usize, walked: Result<usize, Refusal>) -> Option<usize>
     requires { WalkFits from walked }
     ensures { result ≡ crossing_by from walked }
 {
-    match walked {
-        Ok(k) => Some(from + k),
-        Err(_) => None,
-    }
+    let k = walked.ok()?;
+    Some(from + k)
 }
 
 // `has_name` is a fact that the answer holds.
@@ -71,9 +71,10 @@ fn recognize_table(layer: Layer, has_name: bool, cross: usize) -> Result<Outline
         x: cross % layer.width,
         y: cross / layer.width,
     };
-    let body = frames::recognize_body(layer, main)?;
-    let right = crossed(main.x, frames::crossing_right(layer, main));
-    let below = crossed(main.y, frames::crossing_below(layer, main));
+    let spot = Spot { layer, at: main };
+    let body = frames::recognize_body(spot)?;
+    let right = crossed(main.x, frames::crossing_right(spot));
+    let below = crossed(main.y, frames::crossing_below(spot));
     Ok(Outline {
         named: has_name,
         x: main.x,

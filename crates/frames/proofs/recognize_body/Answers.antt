@@ -4,7 +4,7 @@ use Rattle.std.proofs.lemmas.Result.{err_from_is_err_and}
 use mathlib.Core.Path.{◌≡◌, sym, ◌∙◌}
 use Prim.Native.Nat.{◌+◌, ◌<◌, ◌^◌}
 use native.Mathlib.Omega.{arith}
-use Rattle.model.specs.Layers.{picture_of}
+use Rattle.walks.specs.Spots.{from_spot}
 use Rattle.walks.proofs.WalkLaws.{found_bound}
 use Rattle.walks.specs.declared.Direction.TheVariants.{Right, Down, Left, Up}
 use Rattle.along.specs.Characters.{along_of}
@@ -14,24 +14,24 @@ use Rattle.frames.proofs.recognize_body.Goals as goal
 use Rattle.frames.proofs.recognize_body.Goals.{In_ok-up, In_ok-down, In_ok-left, In_ok-right}
 
 -- how far the walks came
-up : (c : In_ok-up) → along_of Body Up (picture_of c.args.layer) c.args.layer.width c.args.layer.height c.args.at.x c.args.at.y ≡ Ok c.in_ok-up.up
+up : (c : In_ok-up) → from_spot (along_of Body Up) c.args.spot ≡ Ok c.in_ok-up.up
 up c = sym c.walk_from.ensures ∙ c.in_ok-up.was
 
-down : (c : In_ok-down) → along_of Body Down (picture_of c.args.layer) c.args.layer.width c.args.layer.height c.args.at.x c.args.at.y ≡ Ok c.in_ok-down.down
+down : (c : In_ok-down) → from_spot (along_of Body Down) c.args.spot ≡ Ok c.in_ok-down.down
 down c = sym c.walk_from-2.ensures ∙ c.in_ok-down.was
 
-left : (c : In_ok-left) → along_of Body Left (picture_of c.args.layer) c.args.layer.width c.args.layer.height c.args.at.x c.args.at.y ≡ Ok c.in_ok-left.left
+left : (c : In_ok-left) → from_spot (along_of Body Left) c.args.spot ≡ Ok c.in_ok-left.left
 left c = sym c.walk_from-3.ensures ∙ c.in_ok-left.was
 
-right : (c : In_ok-right) → along_of Body Right (picture_of c.args.layer) c.args.layer.width c.args.layer.height c.args.at.x c.args.at.y ≡ Ok c.in_ok-right.right
+right : (c : In_ok-right) → from_spot (along_of Body Right) c.args.spot ≡ Ok c.in_ok-right.right
 right c = sym c.walk_from-4.ensures ∙ c.in_ok-right.was
 
 -- the sides on the right and at the bottom are numbers
-wide : (c : In_ok-right) → c.args.at.x + c.in_ok-right.right + 1 < 2 ^ 64
-wide c = let k = found_bound _ _ _ _ _ (right c) in omega (arith, k, c.requires.column, c.well_formed)
+wide : (c : In_ok-right) → c.args.spot.at.x + c.in_ok-right.right + 1 < 2 ^ 64
+wide c = let k = found_bound _ _ _ _ _ (right c) in omega (arith, k, c.args.spot.inside.column, c.well_formed)
 
-high : (c : In_ok-down) → c.args.at.y + c.in_ok-down.down + 1 < 2 ^ 64
-high c = let k = found_bound _ _ _ _ _ (down c) in omega (arith, k, c.requires.row, c.well_formed)
+high : (c : In_ok-down) → c.args.spot.at.y + c.in_ok-down.down + 1 < 2 ^ 64
+high c = let k = found_bound _ _ _ _ _ (down c) in omega (arith, k, c.args.spot.inside.row, c.well_formed)
 
 pub returns-in_err-up : goal.returns-in_err-up
 unfolding body_of

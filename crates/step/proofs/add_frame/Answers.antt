@@ -43,9 +43,6 @@ returns-then-k-n c =
       kept = c.add_cells.ensures.kept;
     }
 
-pub why_none-requires : goal.why_none-requires
-why_none-requires c = c.requires.0
-
 pub returns : goal.returns
 returns c =
     let a = c.args in record {
