@@ -1,7 +1,8 @@
 // The outline of a table on the TEXT layer: whether it has a name, its crossings and its body.
 #![tactic(auto)]
 
-ghost use Rattle.std.specs.Prelude.{◌≡◌, ◌*◌, ◌<◌};
+ghost use Rattle.std.specs.Prelude.{◌≡◌, ◌*◌, ◌<◌, eqb};
+ghost use Rattle.std.specs.List.{position};
 ghost use Rattle.model.specs.Layers.{picture_of};
 ghost use Rattle.walks.specs.Frame.{Place};
 ghost use Rattle.outline.specs.Outline.{search_of, named_of, crossing_by, table_of, outline_of};
@@ -26,18 +27,19 @@ pub struct Outline {
     pub body: Rect,
 }
 
-// The first place at which a character stands.
+// The first place of a list at which a character stands.
+fn place_of(codes: &[u32], code: u32) -> Option<usize>
+    ensures { result ≡ position (λ c. eqb c code) codes.now }
+{
+    codes.iter().position(|c| *c == code)
+}
+
+// The first place of a layer at which a character stands.
 fn search(layer: Layer, code: u32) -> Result<usize, Refusal>
     ensures { result ≡ search_of code (picture_of layer.entry) layer.entry.width layer.entry.height }
 {
-    let codes = layer.codes;
-    let size = layer.height * layer.width;
-    for i in 0..size {
-        if codes[i] == code {
-            return Ok(i);
-        }
-    }
-    Err(Refusal::CharactersNotFound(code))
+    let codes = &layer.codes[..layer.height * layer.width];
+    place_of(codes, code).ok_or(Refusal::CharactersNotFound(code))
 }
 
 // Whether a name stands above a table whose first ╥ lies in this row.
