@@ -4,16 +4,15 @@
 pub mod sets;
 
 ghost use Rattle.std.specs.Prelude.{◌≡◌};
-ghost use Rattle.model.specs.Layers.{picture_of};
-ghost use Rattle.walks.specs.Frame.{Place};
 ghost use Rattle.walks.specs.Sets.{Sought};
+ghost use Rattle.walks.specs.Spots.{from_spot};
 ghost use Rattle.walks.specs.declared.Direction.{Direction};
 ghost use Rattle.along.specs.Characters.{toward, searched_of, allowed_of, along_of};
 
 use model::box_drawing::*;
-use model::layer::Layer;
-use model::{Point, Refusal};
+use model::Refusal;
 use sets::*;
+use walks::spot::Spot;
 use walks::{Characters, Direction, Set};
 
 // What is walked along: the frames of THIN, those of GRID, the box of the name, the double lines to the sides of the
@@ -218,9 +217,8 @@ fn table_of(lines: Lines) -> Sides
 }
 
 // Walks from a place of a layer along lines.
-pub fn along(lines: Lines, d: Direction, layer: Layer, at: Point) -> Result<usize, Refusal>
-    requires { Place layer.width layer.height at.x at.y }
-    ensures { result ≡ along_of lines d (picture_of layer.entry) layer.entry.width layer.entry.height at.x at.y }
+pub fn along(lines: Lines, d: Direction, spot: Spot) -> Result<usize, Refusal>
+    ensures { result ≡ from_spot (along_of lines d) spot.entry }
 {
-    walks::go(d, layer, at, table_of(lines).toward(d))
+    walks::go(d, spot, table_of(lines).toward(d))
 }

@@ -10,6 +10,7 @@ ghost use Rattle.cursors.specs.Cursor.{onward, place_after, Onward};
 use along::Lines;
 use model::layer::Layer;
 use model::{Point, Refusal};
+use walks::spot::Spot;
 use walks::Direction;
 
 // The place k steps on.
@@ -26,6 +27,7 @@ fn onward(d: Direction, at: Point, k: usize) -> Point
 }
 
 // Walks in a direction and moves the cursor there; a walk that is refused leaves it where it was.
+// A layer and a place come apart here and are no `Spot`: what is lent is a small `Point`, a rule of the project.
 #[inline(always)]
 pub fn search(
     d: Direction,
@@ -37,7 +39,8 @@ pub fn search(
     ensures cursor { cursor.new ≡ place_after d cursor.old (along_of lines d (picture_of layer.entry) layer.entry.width layer.entry.height cursor.old.x cursor.old.y) }
     ensures walked { result ≡ along_of lines d (picture_of layer.entry) layer.entry.width layer.entry.height cursor.old.x cursor.old.y }
 {
-    let k = along::along(lines, d, layer, *cursor)?;
+    let spot = Spot { layer, at: *cursor };
+    let k = along::along(lines, d, spot)?;
     *cursor = onward(d, *cursor, k);
     Ok(k)
 }

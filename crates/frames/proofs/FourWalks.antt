@@ -16,8 +16,15 @@ use Rattle.along.specs.declared.Lines.{Lines}
 use Rattle.along.specs.declared.Lines.TheVariants.{Region, Rectangle, Name, Body}
 use Rattle.cursors.specs.Cursor.{point, place_after}
 use Rattle.cursors.proofs.CursorLaws.{Moves, came, stays}
-use Rattle.frames.specs.Answers.{all_of, closed_of}
 use Rattle.frames.specs.Body.{body_of}
+
+-- the last of four walks, or the first refusal
+abbrev pub all_of : Reading ℕ → Reading ℕ → Reading ℕ → Reading ℕ → Reading ℕ
+all_of a b c d = ◌>>◌ a (◌>>◌ b (◌>>◌ c d))
+
+-- the rect from column x of row y to column bx of row by, where four walks ended in column cx of row cy
+abbrev pub closed_of : ℕ → ℕ → ℕ → ℕ → ℕ → ℕ → Reading ℕ → Reading ℕ → Reading ℕ → Reading ℕ → Reading Rect
+closed_of x y bx by cx cy a b c d = ◌>>◌ (all_of a b c d) (close_of x y cx cy bx by)
 
 -- around a frame: the first refusal of the four walks, or whether the cursor is back
 module _ (lines : Lines) (p : Picture) (w h x y : ℕ) where

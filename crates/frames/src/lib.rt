@@ -4,32 +4,18 @@
 ghost use Rattle.std.specs.Prelude.{◌≡◌, ◌+◌, ◌<◌, ◌^◌};
 ghost use Rattle.model.specs.Layers.{picture_of};
 ghost use Rattle.walks.specs.Frame.{Place, close_of, frame_of};
+ghost use Rattle.walks.specs.Spots.{from_spot};
 ghost use Rattle.walks.specs.Kinds.{thin, grid, name};
 ghost use Rattle.walks.specs.declared.Direction.TheVariants.{Right, Down};
 ghost use Rattle.along.specs.Characters.{kind_of, along_of};
-ghost use Rattle.along.specs.declared.Lines.TheVariants.{Body, Crossing};
+ghost use Rattle.along.specs.declared.Lines.TheVariants.{Crossing};
 ghost use Rattle.frames.specs.Body.{body_of};
-ghost use Rattle.frames.specs.Answers.{all_of, closed_of};
 
 use along::Lines;
 use model::layer::Layer;
 use model::{Point, Rect, Refusal};
 use walks::Direction;
-
-// The last of four walks, or the first refusal.
-fn all(
-    a: Result<usize, Refusal>,
-    b: Result<usize, Refusal>,
-    c: Result<usize, Refusal>,
-    d: Result<usize, Refusal>,
-) -> Result<usize, Refusal>
-    ensures { result ≡ all_of a b c d }
-{
-    a?;
-    b?;
-    c?;
-    d
-}
+use walks::spot::Spot;
 
 // The four walks of a frame ended at a place; its bottom right corner is another.
 fn close(at: Point, corner: Point, end: Point) -> Result<Rect, Refusal>
@@ -47,54 +33,33 @@ fn close(at: Point, corner: Point, end: Point) -> Result<Rect, Refusal>
     Err(Refusal::RectangleNotClosed(end.x, end.y))
 }
 
-// What four walks found: the rect from one place to its bottom right corner, if they ended where it begins; or their
-// first refusal.
-fn closed(
-    at: Point,
-    corner: Point,
-    end: Point,
-    right: Result<usize, Refusal>,
-    down: Result<usize, Refusal>,
-    left: Result<usize, Refusal>,
-    up: Result<usize, Refusal>,
-) -> Result<Rect, Refusal>
-    requires { (corner.x + 1 < 2 ^ 64) × (corner.y + 1 < 2 ^ 64) }
-    ensures { result ≡ closed_of at.x at.y corner.x corner.y end.x end.y right down left up }
-{
-    all(right, down, left, up)?;
-    close(at, corner, end)
-}
-
 // The frame along lines that starts at a place: one cursor goes around it. It is inlined into each caller, so that its
 // walks are compiled with its characters.
 #[inline(always)]
-fn frame(layer: Layer, at: Point, lines: Lines) -> Result<Rect, Refusal>
-    requires { Place layer.width layer.height at.x at.y }
-    ensures { result ≡ frame_of (kind_of lines) (picture_of layer.entry) layer.entry.width layer.entry.height at.x at.y }
+fn frame(spot: Spot, lines: Lines) -> Result<Rect, Refusal>
+    ensures { result ≡ from_spot (frame_of (kind_of lines)) spot.entry }
 {
-    let mut cursor = at;
-    let right = cursors::search(Direction::Right, layer, &mut cursor, lines);
-    let down = cursors::search(Direction::Down, layer, &mut cursor, lines);
+    let mut cursor = spot.at;
+    cursors::search(Direction::Right, spot.layer, &mut cursor, lines)?;
+    cursors::search(Direction::Down, spot.layer, &mut cursor, lines)?;
     let corner = cursor;
-    let left = cursors::search(Direction::Left, layer, &mut cursor, lines);
-    let up = cursors::search(Direction::Up, layer, &mut cursor, lines);
-    closed(at, corner, cursor, right, down, left, up)
+    cursors::search(Direction::Left, spot.layer, &mut cursor, lines)?;
+    cursors::search(Direction::Up, spot.layer, &mut cursor, lines)?;
+    close(spot.at, corner, cursor)
 }
 
 // The region that starts at a place of THIN.
-pub fn recognize_region(layer: Layer, at: Point) -> Result<Rect, Refusal>
-    requires { Place layer.width layer.height at.x at.y }
-    ensures { result ≡ frame_of thin (picture_of layer.entry) layer.entry.width layer.entry.height at.x at.y }
+pub fn recognize_region(spot: Spot) -> Result<Rect, Refusal>
+    ensures { result ≡ from_spot (frame_of thin) spot.entry }
 {
-    frame(layer, at, Lines::Region)
+    frame(spot, Lines::Region)
 }
 
 // The cell of the plane that starts at a place of GRID.
-pub fn recognize_rectangle(layer: Layer, at: Point) -> Result<Rect, Refusal>
-    requires { Place layer.width layer.height at.x at.y }
-    ensures { result ≡ frame_of grid (picture_of layer.entry) layer.entry.width layer.entry.height at.x at.y }
+pub fn recognize_rectangle(spot: Spot) -> Result<Rect, Refusal>
+    ensures { result ≡ from_spot (frame_of grid) spot.entry }
 {
-    frame(layer, at, Lines::Rectangle)
+    frame(spot, Lines::Rectangle)
 }
 
 // The box of the name, which starts in the top left corner of TEXT.
@@ -102,65 +67,48 @@ pub fn recognize_name(layer: Layer) -> Result<Rect, Refusal>
     requires { Place layer.width layer.height 0 0 }
     ensures { result ≡ frame_of name (picture_of layer.entry) layer.entry.width layer.entry.height 0 0 }
 {
-    frame(layer, Point { x: 0, y: 0 }, Lines::Name)
-}
-
-// The rect whose sides four walks from a place come to: the cursor is set back there after each.
-fn sides(layer: Layer, at: Point, lines: Lines) -> Result<Rect, Refusal>
-    requires { Place layer.width layer.height at.x at.y × (lines ≡ Body) }
-    ensures { result ≡ body_of (picture_of layer.entry) layer.entry.width layer.entry.height at.x at.y }
-{
-    let mut cursor = at;
-    let up = cursors::search(Direction::Up, layer, &mut cursor, lines);
-    let top = cursor.y;
-    cursor = at;
-    let down = cursors::search(Direction::Down, layer, &mut cursor, lines);
-    let bottom = cursor.y;
-    cursor = at;
-    let left = cursors::search(Direction::Left, layer, &mut cursor, lines);
-    let start = Point {
-        x: cursor.x,
-        y: top,
+    let spot = Spot {
+        layer,
+        at: Point { x: 0, y: 0 },
     };
-    cursor = at;
-    let right = cursors::search(Direction::Right, layer, &mut cursor, lines);
-    let corner = Point {
-        x: cursor.x,
-        y: bottom,
-    };
-    closed(start, corner, start, up, down, left, right)
-}
-
-// The body of the table whose main crossing stands at a place.
-pub fn recognize_body(layer: Layer, at: Point) -> Result<Rect, Refusal>
-    requires { Place layer.width layer.height at.x at.y }
-    ensures { result ≡ body_of (picture_of layer.entry) layer.entry.width layer.entry.height at.x at.y }
-{
-    sides(layer, at, Lines::Body)
+    frame(spot, Lines::Name)
 }
 
 // A walk from a place, on a cursor of its own.
 #[inline(always)]
-fn walk_from(d: Direction, layer: Layer, at: Point, lines: Lines) -> Result<usize, Refusal>
-    requires { Place layer.width layer.height at.x at.y }
-    ensures { result ≡ along_of lines d (picture_of layer.entry) layer.entry.width layer.entry.height at.x at.y }
+fn walk_from(d: Direction, spot: Spot, lines: Lines) -> Result<usize, Refusal>
+    ensures { result ≡ from_spot (along_of lines d) spot.entry }
 {
-    let mut cursor = at;
-    cursors::search(d, layer, &mut cursor, lines)
+    let mut cursor = spot.at;
+    cursors::search(d, spot.layer, &mut cursor, lines)
+}
+
+// The body of the table whose main crossing stands at a place: its sides are as far off as four walks come.
+pub fn recognize_body(spot: Spot) -> Result<Rect, Refusal>
+    ensures { result ≡ from_spot body_of spot.entry }
+{
+    let up = walk_from(Direction::Up, spot, Lines::Body)?;
+    let down = walk_from(Direction::Down, spot, Lines::Body)?;
+    let left = walk_from(Direction::Left, spot, Lines::Body)?;
+    let right = walk_from(Direction::Right, spot, Lines::Body)?;
+    Ok(Rect {
+        left: spot.at.x - left,
+        top: spot.at.y - up,
+        right: spot.at.x + right + 1,
+        bottom: spot.at.y + down + 1,
+    })
 }
 
 // The walk to an annotation crossing on the right of a place.
-pub fn crossing_right(layer: Layer, at: Point) -> Result<usize, Refusal>
-    requires { Place layer.width layer.height at.x at.y }
-    ensures { result ≡ along_of Crossing Right (picture_of layer.entry) layer.entry.width layer.entry.height at.x at.y }
+pub fn crossing_right(spot: Spot) -> Result<usize, Refusal>
+    ensures { result ≡ from_spot (along_of Crossing Right) spot.entry }
 {
-    walk_from(Direction::Right, layer, at, Lines::Crossing)
+    walk_from(Direction::Right, spot, Lines::Crossing)
 }
 
 // The walk to one below.
-pub fn crossing_below(layer: Layer, at: Point) -> Result<usize, Refusal>
-    requires { Place layer.width layer.height at.x at.y }
-    ensures { result ≡ along_of Crossing Down (picture_of layer.entry) layer.entry.width layer.entry.height at.x at.y }
+pub fn crossing_below(spot: Spot) -> Result<usize, Refusal>
+    ensures { result ≡ from_spot (along_of Crossing Down) spot.entry }
 {
-    walk_from(Direction::Down, layer, at, Lines::Crossing)
+    walk_from(Direction::Down, spot, Lines::Crossing)
 }

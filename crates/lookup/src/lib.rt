@@ -15,6 +15,7 @@ use model::layer::Layer;
 use model::limits::REGIONS;
 use model::{Point, Rect};
 use rects::list::Rects;
+use walks::spot::Spot;
 
 // The rects, in row order, at the front of a run.
 fn fill(run: &mut [Rect], rects: Rects)
@@ -82,7 +83,8 @@ fn seek(layer: Layer, i: usize) -> Sought
         x: at % layer.width,
         y: row,
     };
-    let frame = frames::recognize_rectangle(layer, corner).ok();
+    let spot = Spot { layer, at: corner };
+    let frame = frames::recognize_rectangle(spot).ok();
     Sought { at, under, frame }
 }
 

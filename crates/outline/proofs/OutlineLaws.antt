@@ -1,16 +1,23 @@
 -- Laws of the search for a character, and of the steps of the outline.
-use Rattle.std.specs.Prelude.{Ok, Err, ℕ, Option}
-use mathlib.Core.Path.{◌≡◌, refl, sym, ◌∙◌}
+use Rattle.std.specs.Prelude.{Ok, Err, ℕ, Option, Some, cond}
+use Rattle.std.specs.List.{position, position_from}
+use Rattle.std.specs.Option.{ok_or}
+use Rattle.std.proofs.lemmas.Iterator.Adapters.{position_from-zero}
+use Rattle.std.proofs.lemmas.List.{length-take-le}
+use mathlib.Core.Path.{◌≡◌, refl, sym, ap, ◌∙◌}
 use mathlib.Core.Bool.{Bool, true, false}
 use mathlib.Core.List.{List, [], ◌∷◌}
-use Prim.Native.Nat.{ℕ, zero, suc, ◌+◌, ◌-◌, ◌*◌, ◌/◌, ◌%◌, ◌≤◌, ◌<◌, ◌^◌}
-use native.Mathlib.Nat.{sub-zero}
+use Prim.Native.Nat.{ℕ, zero, suc, ◌+◌, ◌*◌, ◌/◌, ◌%◌, ◌≤◌, ◌<◌, ◌^◌}
+use native.Mathlib.Nat.{add-zero, zero-add}
+use lib.ListN.{length, get_or, take}
+use lib.Seq.{get_or-take}
 use native.Mathlib.Numerals.{add-one}
 use native.Mathlib.Omega.{arith}
 use lib.Dec.{eqb}
-use borrow.Author.Tests.{eq-eqb, ne_eqb, lt-ltb}
+use borrow.Author.Tests.{lt-ltb}
 use Rattle.lists.specs.Choose.{choose}
-use Rattle.lists.specs.Picture.{Picture, at}
+use Rattle.lists.specs.Picture.{Picture, canvas, at}
+use Rattle.lists.proofs.PlaceLaws.{at-canvas}
 use Rattle.lists.proofs.AnswerLaws.{refused-ok}
 use Rattle.model.specs.Box.{┌, ═, ║, ╥, ╪, ╫, ╬}
 use Rattle.model.specs.Refusals.{Reading}
@@ -26,33 +33,28 @@ use Rattle.frames.specs.Body.{body_of}
 use Rattle.outline.specs.Outline.{search_from, search_of, named_by, named_of, crossing_by, table_of, outline_by, outline_of}
 use Rattle.outline.specs.Answers.{WalkFits}
 
--- a search has come to place i
-pub record Searching (f : ℕ → ℕ) (c n i : ℕ) : Type 0 where
-  pub along : i ≤ n
-  pub same : search_from f c i (n - i) ≡ search_from f c 0 n
+-- a search of a picture is the search of the list that it shows
+of_list : (f : ℕ → ℕ) (c i : ℕ) (xs : List ℕ) → ((j : ℕ) → j < length xs → f (i + j) ≡ get_or xs j 0)
+    → ok_or (position_from (λ x. eqb x c) i xs) (CharactersNotFound c) ≡ search_from f c i (length xs)
+unfolding search_from
+of_list f c i [] h = refl
+of_list f c i (x ∷ xs) h =
+    let e : f i ≡ x = rw (add-zero i) at (h 0 (omega arith)) in
+    let next : (j : ℕ) → j < length xs → f (suc i + j) ≡ get_or xs j 0 = λ j l. let z : i + suc j ≡ suc i + j = omega arith in rw z at (h (suc j) (omega arith)) in
+    rw (add-one i, e) (go (eqb x c) _ _ (of_list f c (suc i) xs next))
+  where
+    go : (t : Bool) (m : Option ℕ) (r : Reading ℕ) → ok_or m (CharactersNotFound c) ≡ r → ok_or (cond t (Some i) m) (CharactersNotFound c) ≡ choose t (Ok i) r
+    go true m r q = refl
+    go false m r q = q
 
-pub searching_start : (f : ℕ → ℕ) (c n : ℕ) → Searching f c n 0
-searching_start f c n = record { along = omega arith; same = rw sub-zero }
-
-module _ {f : ℕ → ℕ} {c n i : ℕ} (q : Searching f c n i) where
-  module _ (h : i < n) where
-    turn : search_from f c i (n - i) ≡ choose (eqb (f i) c) (Ok i) (search_from f c (i + 1) (n - (i + 1)))
-    unfolding search_from
-    turn =
-        let e : n - i ≡ suc (n - (i + 1)) = omega arith in
-        rw (e, add-one)
-
-    pub searching_found : f i ≡ c → Ok i ≡ search_from f c 0 n
-    searching_found e = sym (turn ∙ rw (eq-eqb (f i) c e)) ∙ q.same
-
-    pub searching_more : (f i ≡ c → ⊥) → Searching f c n (i + 1)
-    searching_more e = record { along = omega arith; same = sym (turn ∙ rw (ne_eqb (f i) c e)) ∙ q.same }
-
-  pub searching_end : n ≤ i → Err (CharactersNotFound c) ≡ search_from f c 0 n
-  unfolding search_from
-  searching_end h =
-      let z : n - i ≡ 0 = omega arith in
-      sym (rw z) ∙ q.same
+pub search_is : (w h c : ℕ) (l : List ℕ) → h * w ≤ length l
+    → ok_or (position (λ x. eqb x c) (take (h * w) l)) (CharactersNotFound c) ≡ search_of c (canvas w h l) w h
+search_is w h c l s =
+    let d = take (h * w) l in
+    let n : length d ≡ h * w = length-take-le (h * w) l s in
+    let same : (j : ℕ) → j < length d → at (canvas w h l) w (0 + j) ≡ get_or d j 0 = λ j b. rw (zero-add j) (at-canvas w h j (omega (arith, n)) l ∙ sym (get_or-take (h * w) l j 0 (omega (arith, n)))) in
+    ap (λ (m : Option ℕ). ok_or m (CharactersNotFound c)) (position_from-zero (λ x. eqb x c) d)
+    ∙ of_list (at (canvas w h l) w) c 0 d same ∙ ap (search_from (at (canvas w h l) w) c 0) n
 
 -- what is found is one of the places
 found_in : (f : ℕ → ℕ) (c i n j : ℕ) → search_from f c i n ≡ Ok j → (i ≤ j) × (j < i + n)

@@ -1,7 +1,8 @@
 // The outline of a table on the TEXT layer: whether it has a name, its crossings and its body.
 #![tactic(auto)]
 
-ghost use Rattle.std.specs.Prelude.{◌≡◌, ◌*◌, ◌<◌};
+ghost use Rattle.std.specs.Prelude.{◌≡◌, ◌*◌, ◌<◌, eqb};
+ghost use Rattle.std.specs.List.{position};
 ghost use Rattle.model.specs.Layers.{picture_of};
 ghost use Rattle.walks.specs.Frame.{Place};
 ghost use Rattle.outline.specs.Outline.{search_of, named_of, crossing_by, table_of, outline_of};
@@ -10,10 +11,12 @@ ghost use Rattle.outline.specs.Answers.{WalkFits};
 use model::box_drawing::*;
 use model::layer::Layer;
 use model::{Point, Rect, Refusal};
+use walks::spot::Spot;
 
 // Whether a name stands above the table; the main crossing's column and row; the column of the annotation crossing
 // on its right and the row of that below it; the body.
-// `named` is a fact of the drawing: no value hangs on it.
+// `named` is a fact of the drawing: no value hangs on it. `x` and `y` are read apart: `x` by the cells of a row of the
+// plane, `y` by its rows.
 #[derive(Clone, Copy)]
 pub struct Outline {
     pub named: bool,
@@ -24,18 +27,19 @@ pub struct Outline {
     pub body: Rect,
 }
 
-// The first place at which a character stands.
+// The first place of a list at which a character stands.
+fn place_of(codes: &[u32], code: u32) -> Option<usize>
+    ensures { result ≡ position (λ c. eqb c code) codes.now }
+{
+    codes.iter().position(|c| *c == code)
+}
+
+// The first place of a layer at which a character stands.
 fn search(layer: Layer, code: u32) -> Result<usize, Refusal>
     ensures { result ≡ search_of code (picture_of layer.entry) layer.entry.width layer.entry.height }
 {
-    let codes = layer.codes;
-    let size = layer.height * layer.width;
-    for i in 0..size {
-        if codes[i] == code {
-            return Ok(i);
-        }
-    }
-    Err(Refusal::CharactersNotFound(code))
+    let codes = &layer.codes[..layer.height * layer.width];
+    place_of(codes, code).ok_or(Refusal::CharactersNotFound(code))
 }
 
 // Whether a name stands above a table whose first ╥ lies in this row.
@@ -55,10 +59,8 @@ fn crossed(from: usize, walked: Result<usize, Refusal>) -> Option<usize>
     requires { WalkFits from walked }
     ensures { result ≡ crossing_by from walked }
 {
-    match walked {
-        Ok(k) => Some(from + k),
-        Err(_) => None,
-    }
+    let k = walked.ok()?;
+    Some(from + k)
 }
 
 // `has_name` is a fact that the answer holds.
@@ -71,9 +73,10 @@ fn recognize_table(layer: Layer, has_name: bool, cross: usize) -> Result<Outline
         x: cross % layer.width,
         y: cross / layer.width,
     };
-    let body = frames::recognize_body(layer, main)?;
-    let right = crossed(main.x, frames::crossing_right(layer, main));
-    let below = crossed(main.y, frames::crossing_below(layer, main));
+    let spot = Spot { layer, at: main };
+    let body = frames::recognize_body(spot)?;
+    let right = crossed(main.x, frames::crossing_right(spot));
+    let below = crossed(main.y, frames::crossing_below(spot));
     Ok(Outline {
         named: has_name,
         x: main.x,

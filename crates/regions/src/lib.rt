@@ -19,6 +19,7 @@ use model::box_drawing::*;
 use model::layer::Layer;
 use model::limits::REGIONS;
 use model::{Point, Refusal};
+use walks::spot::Spot;
 
 // Whether a frame starts at a character. The four corners differ in bits 4 and 5 alone.
 fn is_corner(code: u32) -> bool
@@ -92,7 +93,8 @@ fn add_region(layer: Layer, i: usize, rects: &mut [u32], n: usize) -> Result<usi
         x: i % layer.width,
         y: i / layer.width,
     };
-    let r = frames::recognize_region(layer, corner)?;
+    let spot = Spot { layer, at: corner };
+    let r = frames::recognize_region(spot)?;
     rects::put_rect(rects, n, r);
     Ok(n + 1)
 }

@@ -12,6 +12,7 @@ ghost use Rattle.regions.specs.Corners.{NextCorner};
 ghost use Rattle.rects.specs.Rects.{rects_in};
 ghost use Rattle.regions.specs.Regions.{is_corner};
 ghost use Rattle.walks.specs.Frame.{frame_of, Place};
+ghost use Rattle.walks.specs.Spots.{from_spot};
 ghost use Rattle.walks.specs.Kinds.{grid};
 ghost use Rattle.plane_cells.specs.Made.{row_of, row_made, RowFit, RowFits};
 ghost use Rattle.plane_rows.specs.Made.{rows_of};
@@ -27,13 +28,13 @@ use plane_cells::RowSofar;
 use plane_rows::line;
 use plane_rows::sofar::PlaneSofar;
 use rects::list::Rects;
+use walks::spot::Spot;
 
 // Why the frame that starts at a place has no region.
-fn why_none(layer: Layer, at: Point) -> Refusal
-    requires { Place layer.width layer.height at.x at.y }
-    ensures { result ≡ no_region (frame_of grid (picture_of layer.entry) layer.entry.width layer.entry.height at.x at.y) }
+fn why_none(spot: Spot) -> Refusal
+    ensures { result ≡ no_region (from_spot (frame_of grid) spot.entry) }
 {
-    match frames::recognize_rectangle(layer, at) {
+    match frames::recognize_rectangle(spot) {
         Ok(f) => Refusal::RegionNotFound(f.left, f.top),
         Err(r) => r,
     }
@@ -55,7 +56,8 @@ fn add_frame(
     if k < n.count {
         return plane_cells::add_cells(n.outline, at.x, k, plane.cells, plane.rows, s);
     }
-    Err(why_none(n.grid, at))
+    let spot = Spot { layer: n.grid, at };
+    Err(why_none(spot))
 }
 
 // The column of the first corner of row y from column x on, or the width.

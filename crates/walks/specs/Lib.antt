@@ -4,3 +4,4 @@ pub mod Kinds
 pub mod Line
 pub mod Sides
 pub mod Sets
+pub mod Spots

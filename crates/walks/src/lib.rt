@@ -1,17 +1,19 @@
 // Walks along the rows and columns of a layer.
 #![tactic(auto)]
 
+pub mod spot;
+
 ghost use Rattle.std.specs.Prelude.{◌≡◌, List, ℕ, length};
-ghost use Rattle.model.specs.Layers.{picture_of};
 ghost use Rattle.walks.specs.Walk.{walk_of, ahead, go_of};
-ghost use Rattle.walks.specs.Frame.{Place};
+ghost use Rattle.walks.specs.Spots.{from_spot};
 ghost use Rattle.walks.specs.Sets.{has_bit, holds, Sought};
 ghost use Rattle.walks.specs.Line.{back_of, step_of, line_of, Reach, next_of, NextFits};
 
-use model::layer::Layer;
-use model::{Point, Rect, Refusal};
+use model::Refusal;
+use spot::Spot;
 
-// A value: a walk reads its characters and its step by it once, before the loop. A closure for each step would be no plainer.
+// A value: a walk reads its characters, its step and whether it goes backwards by it once, before the loop; each turn
+// asks the last alone (`next`), since a step is a number without a sign. A closure for each step would be no plainer.
 #[derive(Clone, Copy)]
 pub enum Direction {
     Right,
@@ -129,29 +131,28 @@ fn step_of(d: Direction, w: usize) -> usize
 }
 
 // How many characters lie ahead.
-fn ahead(d: Direction, layer: Layer, at: Point) -> usize
-    requires { Place layer.width layer.height at.x at.y }
-    ensures { result ≡ ahead d layer.entry.width layer.entry.height at.x at.y }
+fn ahead(d: Direction, spot: Spot) -> usize
+    ensures { result ≡ ahead d spot.entry.layer.width spot.entry.layer.height spot.entry.at.x spot.entry.at.y }
 {
     match d {
-        Direction::Right => layer.width - 1 - at.x,
-        Direction::Down => layer.height - 1 - at.y,
-        Direction::Left => at.x,
-        Direction::Up => at.y,
+        Direction::Right => spot.layer.width - 1 - spot.at.x,
+        Direction::Down => spot.layer.height - 1 - spot.at.y,
+        Direction::Left => spot.at.x,
+        Direction::Up => spot.at.y,
     }
 }
 
 // Walks from a place of a layer, over allowed characters to a searched one.
-pub fn go(d: Direction, layer: Layer, at: Point, c: Characters) -> Result<usize, Refusal>
-    requires { Place layer.width layer.height at.x at.y }
-    ensures { (s a : List ℕ) → Sought c s a → result ≡ go_of d (picture_of layer.entry) layer.entry.width layer.entry.height at.x at.y s a }
+pub fn go(d: Direction, spot: Spot, c: Characters) -> Result<usize, Refusal>
+    ensures { (s a : List ℕ) → Sought c s a → result ≡ from_spot (λ p w h x y. go_of d p w h x y s a) spot.entry }
 {
+    let w = spot.layer.width;
     walk_line(
-        layer.codes,
+        spot.layer.codes,
         is_back(d),
-        at.y * layer.width + at.x,
-        step_of(d, layer.width),
-        ahead(d, layer, at),
+        spot.at.y * w + spot.at.x,
+        step_of(d, w),
+        ahead(d, spot),
         c,
     )
 }

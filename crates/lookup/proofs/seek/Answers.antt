@@ -6,7 +6,6 @@ use native.Mathlib.Nat.{div-le_self}
 use native.Mathlib.Omega.{arith}
 use Rattle.lists.specs.Picture.{Picture}
 use Rattle.lists.proofs.PlaceLaws.{columns}
-use Rattle.regions.proofs.RegionLaws.{place_of}
 use Rattle.model.specs.declared.Rect.{Rect}
 use Rattle.model.specs.Refusals.{Reading}
 use Rattle.walks.specs.Frame.{Kind, frame_of}
@@ -48,10 +47,6 @@ returns-then-size-at c = record { next = c.next_corner-at.ensures; under = refl;
 
 pub nonzero_rem-corner : goal.nonzero_rem-corner
 nonzero_rem-corner c = let l = c.args.layer in columns l.width l.height c.next_corner-at.result c.if-size-at.false
-
-pub recognize_rectangle-requires : goal.recognize_rectangle-requires
-recognize_rectangle-requires c =
-    place_of c.args.layer.width c.args.layer.height c.next_corner-at.result c.if-size-at.false
 
 pub returns : goal.returns
 returns c =

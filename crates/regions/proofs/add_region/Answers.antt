@@ -33,10 +33,6 @@ nonzero_rem-corner c = some (goal.at.nonzero_rem-corner c).Start
 pub nonzero_div-corner : goal.nonzero_div-corner
 nonzero_div-corner c = some (goal.at.nonzero_div-corner c).Start
 
-pub recognize_region-requires : goal.recognize_region-requires
-recognize_region-requires c =
-    place_of c.args.layer.width c.args.layer.height c.args.i c.requires.1
-
 pub put_rect-requires : goal.put_rect-requires
 put_rect-requires c =
     let l = c.args.layer in

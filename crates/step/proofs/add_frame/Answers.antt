@@ -43,9 +43,6 @@ returns-then-k-n c =
       kept = record { same = refl; rows = refl; before = c.add_cells.ensures.before };
     }
 
-pub why_none-requires : goal.why_none-requires
-why_none-requires c = c.requires.0
-
 pub returns : goal.returns
 returns c =
     let a = c.args in record {
