@@ -1,7 +1,5 @@
 -- Plain slots of a work slice, which are absent or a part of the texts: their texts, and where they fit a record slice.
-use Rattle.std.specs.Prelude.{List, ℕ, zero, suc, ◌+◌, ◌-◌, ◌*◌, ◌^◌, ◌≤◌, ◌<◌, ◌≡◌, ltb, length, None, Some}
-use Rattle.lists.specs.Run.{run}
-use Rattle.lists.specs.Choose.{choose}
+use Rattle.std.specs.Prelude.{List, ℕ, zero, suc, ◌+◌, ◌*◌, ◌^◌, ◌≤◌, ◌<◌, ◌≡◌, length, None, Some}
 use Rattle.record.specs.Policy.{Text}
 use Rattle.record.specs.Record.{packed, text_offset}
 use Rattle.record.specs.Slots.{kind_at, offset_at, length_at, part_at, slot_limit}
@@ -13,15 +11,6 @@ of_kind (suc k) b = Some b
 
 unfoldable pub text_at : List ℕ → List ℕ → ℕ → Text
 text_at s d i = of_kind (kind_at d i) (part_at s d i)
-
--- the slots from i on, of n, up to the first whose text the caller writes
-unfoldable pub plain_slots : List ℕ → ℕ → ℕ → ℕ
-plain_slots d i zero = 0
-plain_slots d i (suc n) = choose (ltb 1 (kind_at d i)) 0 (suc (plain_slots d (suc i) n))
-
--- the texts of the slots from i on, of c, up to the first whose text the caller writes
-abbrev pub plain_texts : List ℕ → List ℕ → ℕ → ℕ → List Text
-plain_texts s d i c = run (text_at s d) i (plain_slots d i (c - i))
 
 -- c slots in a slice; each part lies within the texts
 pub record Parts (s d : List ℕ) (c : ℕ) : Type 0 where

@@ -2,9 +2,9 @@
 use Rattle.std.specs.Prelude.{List, ◌≡◌, ℕ, ◌+◌, ◌*◌, ◌≤◌, ◌<◌, length, get_or, take, drop}
 use Rattle.model.specs.Limits.{text_bytes}
 use Rattle.record.specs.Policy.{Text}
-use Rattle.record.specs.Record.{packed}
+use Rattle.record.specs.Record.{packed, bytes_of}
 use Rattle.record.specs.Slots.{kind_at, offset_at, length_at, slot_limit}
-use Rattle.writer.specs.SlotTexts.{texts_from}
+use Rattle.writer.specs.SlotTexts.{text_of_kind, texts_from}
 use Rattle.slot_runs.specs.declared.Filled.{Filled}
 use Rattle.slot_runs.specs.declared.Part.{Part}
 use Rattle.slot_runs.specs.declared.Slots.{Slots}
@@ -16,6 +16,13 @@ part_of bytes p = take p.size (drop p.offset bytes)
 pub record PartIn (p : Part) (bytes : List ℕ) : Type 0 where
   pub inside : p.offset + p.size ≤ length bytes
   pub few : length bytes ≤ text_bytes
+
+-- a slot of kind k names the part p of the bytes: its text is t, of n bytes
+pub record Names (bytes : List ℕ) (k : ℕ) (p : Part) (n : ℕ) (t : Text) : Type 0 where
+  pub text : text_of_kind k (part_of bytes p) ≡ t
+  pub size : n ≡ length (bytes_of t)
+  pub inside : p.offset + p.size ≤ length bytes
+  pub short : n ≤ text_bytes
 
 -- one slot's numbers are written, and nothing else changed
 pub record SlotPut (d o : List ℕ) (at k a n : ℕ) : Type 0 where

@@ -1,15 +1,16 @@
 // Texts written as slots, one by one and along a row: three numbers each.
 #![tactic(auto)]
 
-ghost use Rattle.std.specs.Prelude.{List, [], ◌∷◌, ◌≡◌, ℕ, ◌+◌, ◌*◌, ◌≤◌, ◌<◌, length};
+ghost use Rattle.std.specs.Prelude.{List, [], ◌∷◌, ◌≡◌, ℕ, ◌+◌, ◌*◌, ◌^◌, ◌≤◌, ◌<◌, length};
 ghost use Rattle.model.specs.Limits.{text_bytes};
 ghost use Rattle.cells.specs.Slices.{plane_of, text_of};
+ghost use Rattle.record.specs.Policy.{Text};
 ghost use Rattle.record.specs.Slots.{slot_limit};
 ghost use Rattle.clauses.specs.Clauses.{present};
 ghost use Rattle.clauses.specs.Spelled.{cell_text, row_texts};
 ghost use Rattle.clauses.specs.Stated.{allowed_text, default_text};
 ghost use Rattle.values.specs.Values.{values_of};
-ghost use Rattle.slot_runs.specs.Spelt.{part_of, PartIn, SlotPut, HasRoom, Appended};
+ghost use Rattle.slot_runs.specs.Spelt.{part_of, PartIn, SlotPut, HasRoom, Appended, Names};
 
 use cells::text_plane::TextPlane;
 use record::{ABSENT, PART};
@@ -47,16 +48,24 @@ pub struct Slots<'a> {
 }
 
 impl<'a> Slots<'a> {
+    // A slot of a kind, whose text has so many bytes.
+    fn push(&mut self, kind: u32, p: Part, bytes: usize)
+        requires { HasRoom self.old 1 × (bytes < 2 ^ 32) }
+        ensures { (texts : List ℕ) (t : Text) → Names texts kind p bytes t → Appended texts self.old self.new (t ∷ []) }
+    {
+        put_slot(self.numbers, self.filled.slot, kind, p.offset, p.size);
+        self.filled = Filled {
+            slot: self.filled.slot + 1,
+            bytes: self.filled.bytes + bytes,
+        };
+    }
+
     // A text that is absent.
     pub fn put_absent(&mut self)
         requires { HasRoom self.old 1 }
         ensures { (bytes : List ℕ) → Appended bytes self.old self.new (None ∷ []) }
     {
-        put_slot(self.numbers, self.filled.slot, ABSENT, 0, 0);
-        self.filled = Filled {
-            slot: self.filled.slot + 1,
-            bytes: self.filled.bytes,
-        };
+        self.push(ABSENT, Part { offset: 0, size: 0 }, 0);
     }
 
     // A text that is a part.
@@ -64,11 +73,7 @@ impl<'a> Slots<'a> {
         requires { HasRoom self.old 1 }
         ensures { (bytes : List ℕ) → PartIn p bytes → Appended bytes self.old self.new (Some (part_of bytes p) ∷ []) }
     {
-        put_slot(self.numbers, self.filled.slot, PART, p.offset, p.size);
-        self.filled = Filled {
-            slot: self.filled.slot + 1,
-            bytes: self.filled.bytes + p.size as usize,
-        };
+        self.push(PART, p, p.size as usize);
     }
 
     // A text that is a part, and absent when that is empty.
@@ -97,11 +102,7 @@ impl<'a> Slots<'a> {
         requires { HasRoom self.old 1 × (size ≤ text_bytes) }
         ensures { (bytes : List ℕ) → PartIn p bytes → size ≡ length (values_of (part_of bytes p)).allowed → Appended bytes self.old self.new (Some (values_of (part_of bytes p)).allowed ∷ []) }
     {
-        put_slot(self.numbers, self.filled.slot, VALUES, p.offset, p.size);
-        self.filled = Filled {
-            slot: self.filled.slot + 1,
-            bytes: self.filled.bytes + size,
-        };
+        self.push(VALUES, p, size);
     }
 
     // The allowed values of a part and their default, by the value split.

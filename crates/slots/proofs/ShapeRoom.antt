@@ -32,7 +32,7 @@ module _ (s : Shape) where
   abbrev pub from_inputs : ℕ → ℕ
   from_inputs rules = 2 * s.inputs + from_outputs rules
 
-pub fewer_rules : {s : Shape} {rows n i : ℕ} → ShapeFits s rows n → i < n → ShapeFits s rows (i + 1)
+pub fewer_rules : {s : Shape} {rows m n : ℕ} → ShapeFits s rows n → m ≤ n → ShapeFits s rows m
 fewer_rules f h = record { columns = f.columns; behind = f.behind; height = omega (arith, f.height); notes = f.notes }
 
 -- the slots of a sheet whose clauses have 64 columns with the crossing's: 2 + 3 · 63 + 63 · 63 at most

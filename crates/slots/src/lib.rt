@@ -3,7 +3,7 @@
 
 ghost use Rattle.std.specs.Prelude.{List, ℕ, [], ◌∷◌, ◌≡◌, ◌+◌, ◌-◌, ◌*◌, ◌≤◌, ◌<◌, length};
 ghost use Rattle.lists.specs.Choose.{choose};
-ghost use Rattle.model.specs.Limits.{plane_cells, text_bytes};
+ghost use Rattle.model.specs.Limits.{text_bytes};
 ghost use Rattle.cells.specs.Slices.{plane_of, text_of};
 ghost use Rattle.record.specs.Slots.{slot_limit};
 ghost use Rattle.clauses.specs.Spelled.{join_run, input_text, label_text, name_text, output_text, note_texts, entry_texts, spelled};
@@ -63,7 +63,7 @@ fn put_inputs(shaped: ShapedSheet, out: &mut Slots)
 
 // The label of the outputs.
 fn put_label(shaped: ShapedSheet, out: &mut Slots)
-    requires { HasRoom out.old 1 × (shaped.shape.inputs < plane_cells) }
+    requires { HasRoom out.old 1 }
     ensures { Appended (bytes_of shaped.entry) out.old out.new (on_sheet label_text shaped.entry ∷ []) }
 {
     let s = shaped.shape;
@@ -87,7 +87,7 @@ fn names_row(s: Shape) -> usize
 
 // The component name of output j.
 fn put_name(shaped: ShapedSheet, out: &mut Slots, j: usize)
-    requires { HasRoom out.old 1 × (shaped.shape.inputs + 1 + j < plane_cells) }
+    requires { HasRoom out.old 1 × (j < shaped.shape.outputs) }
     ensures { Appended (bytes_of shaped.entry) out.old out.new (on_sheet name_text shaped.entry j ∷ []) }
 {
     let s = shaped.shape;
@@ -102,7 +102,7 @@ fn put_name(shaped: ShapedSheet, out: &mut Slots, j: usize)
 
 // Output j: its component name, its allowed values and its default.
 fn put_output(shaped: ShapedSheet, out: &mut Slots, j: usize)
-    requires { HasRoom out.old 3 × (shaped.shape.inputs + 1 + j < plane_cells) }
+    requires { HasRoom out.old 3 × (j < shaped.shape.outputs) }
     ensures { Appended (bytes_of shaped.entry) out.old out.new (on_sheet output_text shaped.entry j) }
 {
     put_name(shaped, out, j);
@@ -117,7 +117,7 @@ fn put_output(shaped: ShapedSheet, out: &mut Slots, j: usize)
 
 // All outputs.
 fn put_outputs(shaped: ShapedSheet, out: &mut Slots)
-    requires { HasRoom out.old (3 * shaped.shape.outputs) × (shaped.shape.inputs + 1 + shaped.shape.outputs ≤ plane_cells) }
+    requires { HasRoom out.old (3 * shaped.shape.outputs) }
     ensures { Appended (bytes_of shaped.entry) out.old out.new (join_run (on_sheet output_text shaped.entry) 0 shaped.entry.shape.outputs) }
 {
     put_each(shaped, out, shaped.shape.outputs, put_output);
@@ -125,7 +125,7 @@ fn put_outputs(shaped: ShapedSheet, out: &mut Slots)
 
 // The annotation texts of row y.
 fn put_notes(shaped: ShapedSheet, out: &mut Slots, y: usize)
-    requires { HasRoom out.old shaped.shape.notes.count × (shaped.shape.notes.col + shaped.shape.notes.count ≤ plane_cells) }
+    requires { HasRoom out.old shaped.shape.notes.count }
     ensures { Appended (bytes_of shaped.entry) out.old out.new (on_sheet note_texts shaped.entry y) }
 {
     let n = shaped.shape.notes;
@@ -134,7 +134,7 @@ fn put_notes(shaped: ShapedSheet, out: &mut Slots, y: usize)
 
 // Rule r: its input, output and annotation entries.
 fn put_rule(shaped: ShapedSheet, out: &mut Slots, r: usize)
-    requires { HasRoom out.old (shaped.shape.inputs + shaped.shape.outputs + shaped.shape.notes.count) × ShapeFits shaped.shape shaped.sheet.plane.rows (r + 1) }
+    requires { HasRoom out.old (shaped.shape.inputs + shaped.shape.outputs + shaped.shape.notes.count) × (r < shaped.rules) }
     ensures { Appended (bytes_of shaped.entry) out.old out.new (on_sheet entry_texts shaped.entry r) }
 {
     let s = shaped.shape;
@@ -145,12 +145,11 @@ fn put_rule(shaped: ShapedSheet, out: &mut Slots, r: usize)
 }
 
 // All rules.
-#[tactic(auto, using(crate::proofs::ShapeRoom::fewer_rules))]
-fn put_rules(shaped: ShapedSheet, out: &mut Slots, rules: usize)
-    requires { HasRoom out.old (rules * (shaped.shape.inputs + shaped.shape.outputs + shaped.shape.notes.count)) × ShapeFits shaped.shape shaped.sheet.plane.rows rules }
-    ensures { Appended (bytes_of shaped.entry) out.old out.new (join_run (on_sheet entry_texts shaped.entry) 0 rules) }
+fn put_rules(shaped: ShapedSheet, out: &mut Slots)
+    requires { HasRoom out.old (shaped.rules * (shaped.shape.inputs + shaped.shape.outputs + shaped.shape.notes.count)) }
+    ensures { Appended (bytes_of shaped.entry) out.old out.new (join_run (on_sheet entry_texts shaped.entry) 0 shaped.entry.rules) }
 {
-    put_each(shaped, out, rules, put_rule);
+    put_each(shaped, out, shaped.rules, put_rule);
 }
 
 // The texts of a sheet of a known shape, from slot 1 on: the name's slot is left to the caller.
@@ -158,7 +157,11 @@ pub fn fill(sheet: TextPlane, slots: &mut [u32], shape: Shape, rules: usize) -> 
     requires { (length sheet.texts.bytes.now ≤ text_bytes) × ShapeFits shape sheet.plane.rows rules × (3 * slot_limit ≤ length slots.old) }
     ensures { Spelt sheet.entry.texts.bytes.now slots.old slots.new (record { slot = 1; bytes = 0 }) result (spelled (text_of sheet.entry.texts) (plane_of sheet.entry.plane) shape rules) }
 {
-    let shaped = ShapedSheet { sheet, shape };
+    let shaped = ShapedSheet {
+        sheet,
+        shape,
+        rules,
+    };
     let mut out = Slots {
         numbers: slots,
         filled: Filled { slot: 1, bytes: 0 },
@@ -167,6 +170,6 @@ pub fn fill(sheet: TextPlane, slots: &mut [u32], shape: Shape, rules: usize) -> 
     put_inputs(shaped, &mut out);
     put_outputs(shaped, &mut out);
     put_notes(shaped, &mut out, 0);
-    put_rules(shaped, &mut out, rules);
+    put_rules(shaped, &mut out);
     out.filled
 }

@@ -10,7 +10,7 @@ use borrow.Author.Tests.{lt-ltb, le-ltb}
 use Rattle.lists.specs.Put.{put}
 use Rattle.lists.specs.Run.{run}
 use Rattle.lists.proofs.PutLaws.{put_front}
-use Rattle.lists.proofs.RunLaws.{length_run, run_then, run-same, get_or-build}
+use Rattle.lists.proofs.RunLaws.{length_run, run_then, get_or-build}
 use Rattle.model.specs.declared.Refusal.{Refusal}
 use Rattle.record.specs.Policy.{Text}
 use Rattle.record.specs.Record.{Table, word, bytes_of, packed, slot_offset, text_offset, slots_in, total, encode}
@@ -20,19 +20,17 @@ use Rattle.record.specs.declared.Head.{Head}
 use Rattle.record.proofs.RecordTellsPolicy.{length-encode}
 use Rattle.record.proofs.Texts.{length-packed}
 use Rattle.record.proofs.TotalFits.{total-fits}
-use Rattle.record_texts.specs.PlainSlots.{of_kind, text_at, plain_slots, plain_texts, Parts, Fits}
-use Rattle.record_texts.proofs.PlainSlots.{plain-kinds, plain-behind, plain-within, length-plain}
+use Rattle.record_texts.specs.PlainSlots.{of_kind, text_at, Parts, Fits}
 use Rattle.record_texts.proofs.Steps.{slot_written}
 use Rattle.record_texts.proofs.Writing.{with_none, length_with, with_next, text-fits, begun_whole, begun_short, headed-short, standing_start, standing_next, standing_end}
 use Rattle.values.specs.Values.{values_of}
 use Rattle.values.proofs.ValueLaws.{split-length}
-use Rattle.writer.specs.PartsHeld.{PartsHeld}
 use Rattle.writer.specs.SlotRecord.{table_from, record_in, SlotsHeld}
 use Rattle.writer.specs.SlotTexts.{text_of_kind, slot_text, texts_from}
 
 module _ (bytes d : List ℕ) (i : ℕ) where
   -- the record's reading of a slot that is absent or a part
-  slot_plain : kind_at d i ≤ 1 → text_at bytes d i ≡ slot_text bytes d i
+  pub slot_plain : kind_at d i ≤ 1 → text_at bytes d i ≡ slot_text bytes d i
   unfolding text_at slot_text
   slot_plain h = go (kind_at d i) h
     where
@@ -69,9 +67,9 @@ module _ (bytes d : List ℕ) (i : ℕ) (k : 1 < kind_at d i) (t : List ℕ) (et
   values-text = slot_values bytes d i k ∙ rw et
 
   -- what writing them asks, and what it leaves
-  module _ (o n : ℕ) (f : Fits (slot_text bytes d i ∷ []) (i + 1) i o n) where
+  module _ (c o n : ℕ) (h : i < c) (f : Fits (slot_text bytes d i ∷ []) c i o n) where
     pub values_ask : (slot_offset + 8 * i + 8 ≤ o) × (o + length (values_of t).allowed ≤ n) × (o + length (values_of t).allowed < 2 ^ 32)
-    values_ask = text-fits (values_of t).allowed (i + 1) i o n (omega arith) (rw values-text at f)
+    values_ask = text-fits (values_of t).allowed c i o n h (rw values-text at f)
 
     pub values-left : (x y z : List ℕ) (e : ℕ) → length x ≡ n → (e ≡ o + length (values_of t).allowed) × (y ≡ put x o (values_of t).allowed)
         → z ≡ put y (slot_offset + 8 * i) (word o ++ word (e - o))
@@ -80,13 +78,6 @@ module _ (bytes d : List ℕ) (i : ℕ) (k : 1 < kind_at d i) (t : List ℕ) (et
         let m : e - o ≡ length (values_of t).allowed = omega (arith, w.0) in
         let a = values_ask in
         rw values-text (w.0, slot_written x y z i o (values_of t).allowed a.0 (omega (arith, a.1)) w.1 (u ∙ rw m))
-
--- what `put_parts` asks of the slots, and `write_values` of those up to one of them
-pub held-parts : {bytes d : List ℕ} {c : ℕ} → PartsHeld bytes d c → Parts bytes d c
-held-parts p = record { room = p.numbers; few = p.few; inside = λ i h k. p.inside i h }
-
-pub held-slots : {bytes d : List ℕ} {c i : ℕ} → PartsHeld bytes d c → i < c → PartsHeld bytes d (i + 1)
-held-slots p h = record { numbers = omega (arith, p.numbers); few = omega (arith, p.few); inside = λ j l. p.inside j (omega arith) }
 
 -- the writing over x₀ has come to slot i and the offset o: the texts of the slots that are left give the whole
 pub record SlotsTo (bytes d : List ℕ) (c : ℕ) (x₀ x : List ℕ) (i o : ℕ) : Type 0 where
@@ -133,36 +124,14 @@ module _ {bytes d : List ℕ} {c : ℕ} {x₀ x : List ℕ} {i o : ℕ} (s : Slo
           whole = next ∙ ap (with_texts x i o) (sym left) ∙ s.whole;
         }
 
-  -- plain slots: what `put_parts` asks, and what it leaves
-  plain-few : i + plain_slots d i (c - i) ≤ c
-  plain-few = omega (arith, s.fits.along, plain-within bytes d i c, length-plain bytes d i c)
-
-  plain-same : plain_texts bytes d i c ≡ texts_from bytes d i (plain_slots d i (c - i))
-  plain-same =
-      run-same (text_at bytes d) (slot_text bytes d) i (plain_slots d i (c - i)) (λ j a b. slot_plain bytes d j (plain-kinds d (c - i) i j a b))
-
-  pub parts_ask : Fits (plain_texts bytes d i c) c i o (length x)
-  parts_ask = next_fits (plain_slots d i (c - i)) (plain_texts bytes d i c) plain-few plain-same
-
-  pub parts-left : (x' : List ℕ) (i' o' : ℕ)
-      → ((i' ≡ i + plain_slots d i (c - i)) × (o' ≡ o + length (packed (plain_texts bytes d i c)))) × (x' ≡ with_texts x i o (plain_texts bytes d i c))
-      → SlotsTo bytes d c x₀ x' i' o'
-  parts-left x' i' o' w = rw w.0.0 (slots_next (plain_slots d i (c - i)) (plain_texts bytes d i c) plain-few plain-same x' o' w.1 w.0.1)
-
-  -- behind them stands a slot of another kind
-  pub behind-parts : (i' : ℕ) → i' ≡ i + plain_slots d i (c - i) → i' < c → 1 < kind_at d i'
-  behind-parts i' e h = rw e (plain-behind d (c - i) i (omega arith))
-
-  -- one slot: what `write_values` asks, and what it leaves
+  -- one slot: what writing it asks, and what it leaves
   module _ (h : i < c) where
     one : (slot_text bytes d i ∷ []) ≡ texts_from bytes d i 1
     unfolding run
     one = refl
 
-    pub slot_ask : Fits (slot_text bytes d i ∷ []) (i + 1) i o (length x)
-    slot_ask =
-        let f = next_fits 1 (slot_text bytes d i ∷ []) (omega arith) one in
-        record { along = omega arith; behind = omega (arith, f.behind); room = f.room; small = f.small }
+    pub slot_ask : Fits (slot_text bytes d i ∷ []) c i o (length x)
+    slot_ask = next_fits 1 (slot_text bytes d i ∷ []) (omega arith) one
 
     pub slot_left : (x' : List ℕ) (o' : ℕ) → (o' ≡ o + length (bytes_of (slot_text bytes d i))) × (x' ≡ with_texts x i o (slot_text bytes d i ∷ []))
         → SlotsTo bytes d c x₀ x' (i + 1) o'
@@ -200,8 +169,8 @@ module _ {h : Head} {bytes d : List ℕ} {c used : ℕ} (s : SlotsHeld h bytes d
       omega (arith, ap (λ (x : Text). length (bytes_of x)) e, slot_short bytes d i, s.short) in
       omega (arith, total-is, total-fits t (omega (arith, s.counted, s.few)) counted short)
 
-  pub slots-held : PartsHeld bytes d c
-  slots-held = record { numbers = s.room; few = s.few; inside = s.inside }
+  pub slots-held : Parts bytes d c
+  slots-held = record { room = s.room; few = s.few; inside = λ i h k. s.inside i h }
 
   pub texts_fit : {n : ℕ} → text_offset c + used ≤ n → Fits (texts_from bytes d 0 c) c 0 (text_offset c) n
   texts_fit l =

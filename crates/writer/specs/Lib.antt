@@ -1,3 +1,3 @@
 pub mod SlotTexts
 pub mod SlotRecord
-pub mod PartsHeld
+pub mod SlotIn

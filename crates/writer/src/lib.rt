@@ -1,19 +1,19 @@
 // A table's record, written from slots. A slot names a text: none, a part of the bytes, or the allowed values of a part.
-// A slice with a place or a count: it is lent by the caller, in C too, as `record` says.
 #![tactic(auto)]
 
-ghost use Rattle.std.specs.Prelude.{[], ◌∷◌, ◌≡◌, ◌+◌, ◌*◌, ◌≤◌, ◌<◌, length};
+ghost use Rattle.std.specs.Prelude.{ℕ, [], ◌∷◌, ◌≡◌, ◌+◌, ◌*◌, ◌≤◌, ◌<◌, length};
 ghost use Rattle.record.specs.Record.{bytes_of, text_offset, total};
 ghost use Rattle.record.specs.Slots.{kind_at, offset_at, length_at, part_at};
 ghost use Rattle.record.specs.Written.{begun_of, with_texts};
 ghost use Rattle.record_texts.specs.PlainSlots.{Fits};
-ghost use Rattle.writer.specs.PartsHeld.{PartsHeld};
+ghost use Rattle.writer.specs.SlotIn.{SlotIn};
 ghost use Rattle.writer.specs.SlotTexts.{slot_text, texts_from};
 ghost use Rattle.writer.specs.SlotRecord.{table_from, record_in, SlotsHeld};
 
 use model::Refusal;
-use record::Head;
+use record::{Head, PART};
 use record_texts::Reached;
+use record_texts::slotted::Slotted;
 
 // The kind of a slot whose text is the allowed values of a part: a number, as its kinds in `record` are.
 pub const VALUES: u32 = 2;
@@ -29,35 +29,42 @@ fn part_of<'a, 'b>(bytes: &'a [u8], slots: &'b [u32], slot: usize) -> &'a [u8]
 }
 
 // A slot whose text is the allowed values of its part; the offset behind its text.
-fn write_values(bytes: &[u8], slots: &[u32], slot: usize, offset: usize, out: &mut [u8]) -> usize
-    requires parts_held { PartsHeld bytes.now slots.now (slot + 1) × (1 < kind_at slots.now slot) }
-    requires fits { Fits (slot_text bytes.now slots.now slot ∷ []) (slot + 1) slot offset (length out.old) }
-    ensures value { result ≡ offset + length (bytes_of (slot_text bytes.now slots.now slot)) }
-    ensures out_after { out.new ≡ with_texts out.old slot offset (slot_text bytes.now slots.now slot ∷ []) }
+fn write_values(texts: Slotted, at: Reached, out: &mut [u8]) -> usize
+    requires held { SlotIn texts at.slot × (1 < kind_at texts.slots.now at.slot) }
+    requires fits { Fits (slot_text texts.bytes.now texts.slots.now at.slot ∷ []) texts.count at.slot at.offset (length out.old) }
+    ensures value { result ≡ at.offset + length (bytes_of (slot_text texts.entry.bytes.now texts.entry.slots.now at.slot)) }
+    ensures out_after { out.new ≡ with_texts out.old at.slot at.offset (slot_text texts.entry.bytes.now texts.entry.slots.now at.slot ∷ []) }
 {
-    let text = part_of(bytes, slots, slot);
-    let end = values::put_values(text, out, offset);
-    record::put_slot(out, slot, offset, end - offset);
+    let text = part_of(texts.bytes, texts.slots, at.slot);
+    let end = values::put_values(text, out, at.offset);
+    record::put_slot(out, at.slot, at.offset, end - at.offset);
     end
 }
 
-// All c slots with their texts.
-fn write_slots(bytes: &[u8], slots: &[u32], c: usize, out: &mut [u8])
-    requires parts_held { PartsHeld bytes.now slots.now c }
-    requires fits { Fits (texts_from bytes.now slots.now 0 c) c 0 (text_offset c) (length out.old) }
-    ensures { out.new ≡ with_texts out.old 0 (text_offset c) (texts_from bytes.now slots.now 0 c) }
+// A slot with its text; the offset behind it.
+fn write_slot(texts: Slotted, at: Reached, out: &mut [u8]) -> usize
+    requires held { SlotIn texts at.slot }
+    requires fits { Fits (slot_text texts.bytes.now texts.slots.now at.slot ∷ []) texts.count at.slot at.offset (length out.old) }
+    ensures end { result ≡ at.offset + length (bytes_of (slot_text texts.entry.bytes.now texts.entry.slots.now at.slot)) }
+    ensures out_after { out.new ≡ with_texts out.old at.slot at.offset (slot_text texts.entry.bytes.now texts.entry.slots.now at.slot ∷ []) }
 {
-    let mut slot: usize = 0;
+    let slots = texts.slots;
+    if PART < slots[3 * at.slot] {
+        return write_values(texts, at, out);
+    }
+    record_texts::put_part(out, texts, at)
+}
+
+// All slots with their texts.
+fn write_slots(texts: Slotted, out: &mut [u8])
+    requires held { (i : ℕ) → i < texts.count → SlotIn texts i }
+    requires fits { Fits (texts_from texts.bytes.now texts.slots.now 0 texts.count) texts.count 0 (text_offset texts.count) (length out.old) }
+    ensures { out.new ≡ with_texts out.old 0 (text_offset texts.entry.count) (texts_from texts.entry.bytes.now texts.entry.slots.now 0 texts.entry.count) }
+{
+    let c = texts.count;
     let mut offset = 40 + 8 * c;
-    // No `for`: each turn goes on behind the slots that were written together.
-    while slot < c {
-        let r = record_texts::put_parts(out, slots, c, bytes, Reached { slot, offset });
-        let next = r.slot;
-        if c <= next {
-            return;
-        }
-        offset = write_values(bytes, slots, next, r.offset, out);
-        slot = next + 1;
+    for slot in 0..c {
+        offset = write_slot(texts, Reached { slot, offset }, out);
     }
 }
 
@@ -75,6 +82,11 @@ pub fn write_record(
     ensures written { out.new ≡ record_in out.old (table_from h bytes.now slots.now c) }
 {
     let total = record::begin_record(out, h, c, used)?;
-    write_slots(bytes, slots, c, out);
+    let texts = Slotted {
+        bytes,
+        slots,
+        count: c,
+    };
+    write_slots(texts, out);
     Ok(total)
 }

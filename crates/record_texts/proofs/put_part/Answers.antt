@@ -3,16 +3,16 @@ use mathlib.Core.Path.{refl}
 use Rattle.record_texts.proofs.Steps.{absent_part, part_within, present-fits, present_part}
 use Rattle.record_texts.proofs.put_part.Goals as goal
 
-pub returns-then-slots-slot-eq-ABSENT : goal.returns-then-slots-slot-eq-ABSENT
-returns-then-slots-slot-eq-ABSENT c = let w = absent_part _ _ _ _ _ _ c.if-slots-slot-eq-ABSENT.true c.put_slot.ensures in record { value = w.0; out_after = w.1 }
+pub returns-then-slots-at-eq-ABSENT : goal.returns-then-slots-at-eq-ABSENT
+returns-then-slots-at-eq-ABSENT c = let w = absent_part _ _ _ _ _ _ c.if-slots-at-eq-ABSENT.true c.put_slot.ensures in record { value = w.0; out_after = w.1 }
 
 pub part-requires : goal.part-requires
 part-requires c =
-    part_within c.requires.parts.0 _ _ _ c.requires.parts.1.0 c.requires.parts.1.1 c.if-slots-slot-eq-ABSENT.false refl refl
+    part_within c.args.texts.parts _ _ _ c.requires.plain.0 c.requires.plain.1 c.if-slots-at-eq-ABSENT.false refl refl
 
 pub put_text-requires : goal.put_text-requires
 put_text-requires c =
-    present-fits c.requires.parts.0 _ _ _ c.requires.parts.1.0 c.requires.parts.1.1 c.if-slots-slot-eq-ABSENT.false refl refl _ c.part.ensures _ _ c.requires.fits
+    present-fits c.args.texts.parts _ _ _ c.requires.plain.0 c.requires.plain.1 c.if-slots-at-eq-ABSENT.false refl refl _ c.part.ensures _ _ c.requires.fits
 
 pub returns : goal.returns
-returns c = let w = present_part c.requires.parts.0 _ _ _ c.requires.parts.1.0 c.requires.parts.1.1 c.if-slots-slot-eq-ABSENT.false refl refl _ c.part.ensures _ _ _ _ (c.put_text.ensures.value, c.put_text.ensures.out_after) in record { value = w.0; out_after = w.1 }
+returns c = let w = present_part c.args.texts.parts _ _ _ c.requires.plain.0 c.requires.plain.1 c.if-slots-at-eq-ABSENT.false refl refl _ c.part.ensures _ _ _ _ (c.put_text.ensures.value, c.put_text.ensures.out_after) in record { value = w.0; out_after = w.1 }

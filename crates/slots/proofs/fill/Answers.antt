@@ -28,22 +28,22 @@ behind-notes c r = room_next r c.put_notes.ensures (length_run _ _ _) (omega ari
 
 pub put_label-requires : goal.put_label-requires
 put_label-requires c =
-    (room_less (room-all c.requires.1 c.args.sheet.plane.fits.rows c.requires.2) (omega arith), omega (arith, c.requires.1.columns))
+    room_less (room-all c.requires.1 c.args.sheet.plane.fits.rows c.requires.2) (omega arith)
 
 pub put_inputs-requires : goal.put_inputs-requires
 put_inputs-requires c = room_less (behind-label (goal.at.put_inputs-requires c).After-put_label) (omega arith)
 
 pub put_outputs-requires : goal.put_outputs-requires
 put_outputs-requires c =
-    (room_less (behind-inputs (goal.at.put_outputs-requires c).After-put_inputs (behind-label (goal.at.put_outputs-requires c).After-put_label)) (omega arith), omega (arith, c.requires.1.columns))
+    room_less (behind-inputs (goal.at.put_outputs-requires c).After-put_inputs (behind-label (goal.at.put_outputs-requires c).After-put_label)) (omega arith)
 
 pub put_notes-requires : goal.put_notes-requires
 put_notes-requires c =
-    (room_less (behind-outputs (goal.at.put_notes-requires c).After-put_outputs (behind-inputs (goal.at.put_notes-requires c).After-put_inputs (behind-label (goal.at.put_notes-requires c).After-put_label))) (omega arith), c.requires.1.behind)
+    room_less (behind-outputs (goal.at.put_notes-requires c).After-put_outputs (behind-inputs (goal.at.put_notes-requires c).After-put_inputs (behind-label (goal.at.put_notes-requires c).After-put_label))) (omega arith)
 
 pub put_rules-requires : goal.put_rules-requires
 put_rules-requires c =
-    (behind-notes (goal.at.put_rules-requires c).After-put_notes (behind-outputs (goal.at.put_rules-requires c).After-put_outputs (behind-inputs (goal.at.put_rules-requires c).After-put_inputs (behind-label (goal.at.put_rules-requires c).After-put_label))), c.requires.1)
+    behind-notes (goal.at.put_rules-requires c).After-put_notes (behind-outputs (goal.at.put_rules-requires c).After-put_outputs (behind-inputs (goal.at.put_rules-requires c).After-put_inputs (behind-label (goal.at.put_rules-requires c).After-put_label)))
 
 pub returns : goal.returns
 unfolding spelled

@@ -13,18 +13,16 @@ room-behind c = room_next c.requires.0 c.put_row.ensures (length_run _ _ _) (ome
 
 pub put_row-requires-2 : goal.put_row-requires-2
 put_row-requires-2 c =
-    let t = c.requires in
-    (c.args.shaped.few, room_less (room-behind (goal.at.put_row-requires-2 c).After-put_row) (omega arith), omega (arith, t.1.columns))
+    (c.args.shaped.few, room_less (room-behind (goal.at.put_row-requires-2 c).After-put_row) (omega arith), omega (arith, c.args.shaped.fits.columns))
 
 pub overflow_add-s-2 : goal.overflow_add-s-2
 overflow_add-s-2 c =
-    let t = c.requires in
-    omega (arith, t.1.notes, t.1.height, c.args.shaped.sheet.plane.fits.rows)
+    let f = c.args.shaped.fits in
+    omega (arith, c.requires.1, f.notes, f.height, c.args.shaped.sheet.plane.fits.rows)
 
 pub put_notes-requires : goal.put_notes-requires
 put_notes-requires c =
-    let t = c.requires in
-    (room_next (room-behind (goal.at.put_notes-requires c).After-put_row) c.put_row-2.ensures (length_run _ _ _) (omega arith), t.1.behind)
+    room_next (room-behind (goal.at.put_notes-requires c).After-put_row) c.put_row-2.ensures (length_run _ _ _) (omega arith)
 
 pub returns : goal.returns
 returns c =

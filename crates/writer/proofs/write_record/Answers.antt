@@ -1,6 +1,6 @@
 -- `writer::write_record` meets its contract.
 use mathlib.Core.Path.{sym, ◌∙◌}
-use Rattle.writer.proofs.WritingLaws.{record_small, slots-held, texts_fit, record_room, record_whole, record_short}
+use Rattle.writer.proofs.WritingLaws.{record_small, texts_fit, record_room, record_whole, record_short}
 use native.Mathlib.Omega.{arith}
 use Rattle.std.proofs.lemmas.Result.{err_from_is_err_and}
 use Rattle.writer.proofs.write_record.Goals as goal
@@ -11,7 +11,7 @@ begin_record-requires c = record_small c.requires
 pub write_slots-requires : goal.write_slots-requires
 write_slots-requires c =
     let begun = c.begin_record.ensures in
-    record { parts_held = slots-held c.requires; fits = texts_fit c.requires (omega (arith, record_room c.requires c.args.out.now _ (sym c.in_ok-total.was ∙ begun.value))) }
+    record { held = λ i h. record { one = h; inside = c.requires.inside i h }; fits = texts_fit c.requires (omega (arith, record_room c.requires c.args.out.now _ (sym c.in_ok-total.was ∙ begun.value))) }
 
 pub returns-in_err-total : goal.returns-in_err-total
 returns-in_err-total c =

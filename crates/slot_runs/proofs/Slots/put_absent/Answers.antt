@@ -2,8 +2,7 @@
 use Rattle.std.specs.Prelude.{None}
 use mathlib.Core.Path.{refl}
 use native.Mathlib.Omega.{arith}
-use Rattle.slot_runs.proofs.SpeltLaws.{appended_one}
 use Rattle.slot_runs.proofs.Slots.put_absent.Goals as goal
 
 pub returns : goal.returns
-returns c = λ bytes. appended_one None c.put_slot.ensures refl refl refl (omega arith) (omega arith) (omega arith)
+returns c = λ bytes. c.push.ensures bytes None (record { text = refl; size = refl; inside = omega arith; short = omega arith })

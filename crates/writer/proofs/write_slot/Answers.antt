@@ -1,0 +1,20 @@
+-- `writer::write_slot` meets its contract.
+use native.Mathlib.Omega.{arith}
+use Rattle.writer.proofs.WritingLaws.{slot_plain}
+use Rattle.writer.proofs.write_slot.Goals as goal
+
+pub bounds-slots-at : goal.bounds-slots-at
+bounds-slots-at c = omega (arith, c.requires.held.one, c.args.texts.parts.room)
+
+pub write_values-requires : goal.write_values-requires
+write_values-requires c = record { held = (c.requires.held, c.if-slots-at-gt-PART.true); fits = c.requires.fits }
+
+pub put_part-requires : goal.put_part-requires
+put_part-requires c =
+    let k = c.if-slots-at-gt-PART.false in
+    record { plain = (c.requires.held.one, k); fits = rw (slot_plain _ _ _ k) c.requires.fits }
+
+pub returns : goal.returns
+returns c =
+    let e = slot_plain c.args.texts.bytes.now c.args.texts.slots.now c.args.at.slot c.if-slots-at-gt-PART.false in
+    record { end = rw e at c.put_part.ensures.value; out_after = rw e at c.put_part.ensures.out_after }
