@@ -83,8 +83,8 @@ module _ (o : Outline) (x region row : ℕ) (s : RowSofar) (d : List ℕ) where
       → cells_in d1 row a ≡ cells_in d row s.cells ++ choose is_output (VerticalOutputDoubleLine ∷ []) []
       → cells_in d2 row b ≡ cells_in d1 row a ++ choose u (VerticalAnnotationDoubleLine ∷ []) []
       → cells_in d3 row (b + 1) ≡ cells_in d2 row b ++ cell
-      → output ≡ choose is_output (Some s.cells) s.output → annotation ≡ choose u (Some a) s.annotation
-      → Ok (row_in (record { cells = b + 1; output = output; annotation = annotation }) d3 row) ≡ fitting row more
+      → output ≡ choose is_output (Some s.cells) s.doubles.output → annotation ≡ choose u (Some a) s.doubles.annotation
+      → Ok (row_in (record { cells = b + 1; doubles = record { output = output; annotation = annotation } }) d3 row) ≡ fitting row more
   cells_added u q h g a b d1 d2 d3 {output} {annotation} e1 e2 e3 m n =
       let la : length (cells_in d row s.cells) ≡ s.cells = length-cells d row s.cells in
       let lb : length (cells_in d row s.cells ++ output_before o x) ≡ a = ap length (sym e1) ∙ length-cells d1 row a in

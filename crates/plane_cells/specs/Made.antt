@@ -9,7 +9,7 @@ use Rattle.plane_cells.specs.declared.RowSofar.{RowSofar}
 
 -- the row so far, as row n of the slice
 abbrev pub row_in : RowSofar → List ℕ → ℕ → Row
-row_in s d n = record { cells = cells_in d n s.cells; output = s.output; annotation = s.annotation }
+row_in s d n = record { cells = cells_in d n s.cells; output = s.doubles.output; annotation = s.doubles.annotation }
 
 -- an answer's row
 abbrev pub row_made_in : Reading RowSofar → List ℕ → ℕ → Reading Row

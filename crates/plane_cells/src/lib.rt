@@ -18,12 +18,18 @@ pub fn is_at(c: Option<usize>, x: usize) -> bool
     c == Some(x)
 }
 
-// A row so far: how many cells it has, and the columns of the two double lines.
+// The columns of the double line before the outputs and of that before the annotations.
+#[derive(Clone, Copy)]
+pub struct Doubles {
+    pub output: Option<usize>,
+    pub annotation: Option<usize>,
+}
+
+// A row so far: how many cells it has, and the columns of the double lines.
 #[derive(Clone, Copy)]
 pub struct RowSofar {
     pub cells: usize,
-    pub output: Option<usize>,
-    pub annotation: Option<usize>,
+    pub doubles: Doubles,
 }
 
 // The cell of a frame in column x, of a region, behind the double lines left of it.
@@ -58,11 +64,15 @@ pub fn add_cells(
         cells::put_cell(plane, row, a, Cell::VerticalAnnotationDoubleLine);
     }
     cells::put_cell(plane, row, b, Cell::Region(region as u32));
-    let output = if is_output { Some(from) } else { s.output };
-    let annotation = if is_annotation { Some(a) } else { s.annotation };
+    let last = s.doubles;
+    let output = if is_output { Some(from) } else { last.output };
+    let annotation = if is_annotation {
+        Some(a)
+    } else {
+        last.annotation
+    };
     Ok(RowSofar {
         cells: b + 1,
-        output,
-        annotation,
+        doubles: Doubles { output, annotation },
     })
 }

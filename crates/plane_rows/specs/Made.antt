@@ -11,7 +11,7 @@ use Rattle.plane_rows.specs.declared.sofar.PlaneSofar.{PlaneSofar}
 
 -- the rows that are ended, with what is known of them
 abbrev pub rows_of : PlaneSofar → PlaneWriter → Rows
-rows_of s w = record { plane = written w; width = s.width; output = s.output; annotation = s.annotation }
+rows_of s w = record { plane = written w; width = s.width; output = s.doubles.output; annotation = s.doubles.annotation }
 
 -- an answer's rows, which a line row more leaves as they are known
 abbrev pub line_made : Reading (Unit {0}) → PlaneSofar → PlaneWriter → Reading Rows

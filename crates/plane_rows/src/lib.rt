@@ -16,17 +16,18 @@ use cells::plane_writer::PlaneWriter;
 use line::Line;
 use model::limits::PLANE_ROWS;
 use model::{Cell, Refusal};
+use plane_cells::Doubles;
 use sofar::PlaneSofar;
 
 // Cell i of a line row.
-fn line_cell(l: Line, output: Option<usize>, annotation: Option<usize>, i: usize) -> Cell
-    ensures cell { result ≡ line_cell l.output l.annotation l.plain output annotation i }
+fn line_cell(l: Line, doubles: Doubles, i: usize) -> Cell
+    ensures cell { result ≡ line_cell l.output l.annotation l.plain doubles.output doubles.annotation i }
     ensures small { Small result }
 {
-    if plane_cells::is_at(output, i) {
+    if plane_cells::is_at(doubles.output, i) {
         return l.output;
     }
-    if plane_cells::is_at(annotation, i) {
+    if plane_cells::is_at(doubles.annotation, i) {
         return l.annotation;
     }
     l.plain
@@ -35,18 +36,18 @@ fn line_cell(l: Line, output: Option<usize>, annotation: Option<usize>, i: usize
 // A line row as long as the last row, not yet ended.
 fn put_line(plane: &mut PlaneWriter, s: PlaneSofar, l: Line)
     requires { plane.old.rows < plane_rows }
-    ensures cells { next_row plane.new s.width ≡ build s.width (line_cell l.output l.annotation l.plain s.output s.annotation) }
+    ensures cells { next_row plane.new s.width ≡ build s.width (line_cell l.output l.annotation l.plain s.doubles.output s.doubles.annotation) }
     ensures kept { Kept plane.old plane.new }
 {
     for i in 0..s.width {
-        let c = line_cell(l, s.output, s.annotation, i);
+        let c = line_cell(l, s.doubles, i);
         plane.put_cell(i, c);
     }
 }
 
 // A line row more, as long as the last.
 pub fn add_line(plane: &mut PlaneWriter, s: PlaneSofar, l: Line) -> Result<(), Refusal>
-    ensures made { line_made result s plane.new ≡ add_line (line_cell l.output l.annotation l.plain s.output s.annotation) (rows_of s plane.old) }
+    ensures made { line_made result s plane.new ≡ add_line (line_cell l.output l.annotation l.plain s.doubles.output s.doubles.annotation) (rows_of s plane.old) }
     ensures same { SameSlice plane.old plane.new }
 {
     if PLANE_ROWS <= plane.rows {

@@ -26,7 +26,7 @@ use Rattle.step.specs.PlaneStep.{row_by, add_row, add_frames}
 
 -- the row of the frames, behind the rows so far
 module _ (o : Outline) (find : Finder) (regions : List Rect) (p : Picture) (w y : ℕ) (s : PlaneSofar) (d d1 : PlaneWriter) (r : Reading RowSofar)
-    (e : row_made r d1 ≡ row_by o find regions p w d.rows y (record { cells = []; output = s.output; annotation = s.annotation })) where
+    (e : row_made r d1 ≡ row_by o find regions p w d.rows y (record { cells = []; output = s.doubles.output; annotation = s.doubles.annotation })) where
   abbrev whole : Reading Rows
   whole = add_frames o find regions p w y (rows_of s d)
 
@@ -46,7 +46,7 @@ module _ (o : Outline) (find : Finder) (regions : List Rect) (p : Picture) (w y 
     no_frames q = sym (added z ∙ rw (eq-eqb (length (next_row d1 t.cells)) 0 (count ∙ q), kept-written k))
 
     pub frames_added : (t.cells ≡ 0 → ⊥) → (d2 : PlaneWriter) → Ended d1 d2 t.cells
-        → ◌≡◌ {A = Reading Rows} (Ok (record { plane = written d2; width = t.cells; output = t.output; annotation = t.annotation })) whole
+        → ◌≡◌ {A = Reading Rows} (Ok (record { plane = written d2; width = t.cells; output = t.doubles.output; annotation = t.doubles.annotation })) whole
     frames_added n d2 g =
         let v : written d2 ≡ written d ++ (next_row d1 t.cells ∷ []) = g.plane ∙ rw (kept-written k) in
         sym (added z ∙ rw (ne_eqb (length (next_row d1 t.cells)) 0 (λ q. n (sym count ∙ q)), count, v))

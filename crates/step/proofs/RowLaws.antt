@@ -1,5 +1,5 @@
 -- The cells of a frame whose number is known, and a row of frames that is being made.
-use Rattle.std.specs.Prelude.{Ok, Err, Option, ℕ}
+use Rattle.std.specs.Prelude.{Ok, Err, ℕ}
 use mathlib.Core.Path.{◌≡◌, refl, sym, ap, ◌∙◌, subst}
 use mathlib.Core.Bool.{Bool, true}
 use mathlib.Core.List.{List, []}
@@ -30,6 +30,7 @@ use Rattle.walks.specs.Frame.{frame_of}
 use Rattle.walks.specs.Kinds.{grid}
 use Rattle.plane_cells.specs.Made.{row_of, row_made, RowFit, RowFits}
 use Rattle.plane_cells.specs.Row.{Row, fitting, with_cell}
+use Rattle.plane_cells.specs.declared.Doubles.{Doubles}
 use Rattle.plane_cells.specs.declared.RowSofar.{RowSofar}
 use Rattle.step.specs.Made.{no_region, Over}
 use Rattle.step.specs.PlaneStep.{add_cell, row_by}
@@ -93,7 +94,7 @@ pub record Filling (o : Outline) (w h count : ℕ) (l found : List ℕ) (y : ℕ
   pub fits : RowFit s out.rows
   pub same : Over w h count l found (λ rs.
       each (add_cell o (frame_of grid (canvas w h l) w h) rs d.rows y) (those (λ i. is_corner (canvas w h l i y)) x (w - x)) (row_of s out)
-      ≡ row_by o (frame_of grid (canvas w h l) w h) rs (canvas w h l) w d.rows y (record { cells = []; output = s₀.output; annotation = s₀.annotation }))
+      ≡ row_by o (frame_of grid (canvas w h l) w h) rs (canvas w h l) w d.rows y (record { cells = []; output = s₀.doubles.output; annotation = s₀.doubles.annotation }))
 
 -- from column i on there is no frame before that of the next corner
 skipped : (o : Outline) (w h : ℕ) (l : List ℕ) (row y i k : ℕ) (s : Row) → NextCorner (λ j. is_corner (canvas w h l j y)) w i k → (rs : List Rect)
@@ -102,16 +103,16 @@ skipped : (o : Outline) (w h : ℕ) (l : List ℕ) (row y i k : ℕ) (s : Row) �
 skipped o w h l row y i k s q rs =
     ap (λ (xs : List ℕ). each (add_cell o (frame_of grid (canvas w h l) w h) rs row y) xs s) (sym (those-from (λ j. is_corner (canvas w h l j y)) w i k q.from q.to q.clear))
 
-pub filling_start : (o : Outline) (w h count : ℕ) (l found : List ℕ) (y : ℕ) (d : PlaneWriter) (output annotation : Option ℕ) (x : ℕ) → y < h → NextCorner (λ i. is_corner (pic w l i y)) w 0 x
-    → Filling o w h count l found y d (record { cells = 0; output = output; annotation = annotation }) d x (record { cells = 0; output = output; annotation = annotation })
+pub filling_start : (o : Outline) (w h count : ℕ) (l found : List ℕ) (y : ℕ) (d : PlaneWriter) (t : Doubles) (x : ℕ) → y < h → NextCorner (λ i. is_corner (pic w l i y)) w 0 x
+    → Filling o w h count l found y d (record { cells = 0; doubles = t }) d x (record { cells = 0; doubles = t })
 unfolding cells_in run
-filling_start o w h count l found y d output annotation x v q =
+filling_start o w h count l found y d t x v q =
     let c = corner-canvas l w h 0 y x v q in
     record {
       starts = c.found;
       kept = same_kept d;
       fits = record { few = omega arith; low = λ z. absurd (omega arith) };
-      same = λ rs n m. skipped o w h l d.rows y 0 x (row_of (record { cells = 0; output = output; annotation = annotation }) d) c rs ∙ rw (sub-zero w);
+      same = λ rs n m. skipped o w h l d.rows y 0 x (row_of (record { cells = 0; doubles = t }) d) c rs ∙ rw (sub-zero w);
     }
 
 module _ {o : Outline} {w h count : ℕ} {l found : List ℕ} {y : ℕ} {d : PlaneWriter} {s₀ : RowSofar} {out : PlaneWriter} {x : ℕ} {s : RowSofar} (q : Filling o w h count l found y d s₀ out x s) where
@@ -125,7 +126,7 @@ module _ {o : Outline} {w h count : ℕ} {l found : List ℕ} {y : ℕ} {d : Pla
   corner i = is_corner (p i y)
 
   abbrev whole : List Rect → Reading Row
-  whole rs = row_by o (frame_of grid p w h) rs p w d.rows y (record { cells = []; output = s₀.output; annotation = s₀.annotation })
+  whole rs = row_by o (frame_of grid p w h) rs p w d.rows y (record { cells = []; output = s₀.doubles.output; annotation = s₀.doubles.annotation })
 
   module _ (g : x < w) (r : Reading RowSofar) (b : PlaneWriter)
       (e : Over w h count l found (λ rs. row_made r b ≡ add_cell o (frame_of grid p w h) rs out.rows y x (row_of s out))) (k : Kept out b) where

@@ -35,11 +35,11 @@ use Rattle.step.specs.PlaneStep.{add_frames, add_grid_row, rows_by, plane_by, pl
 -- the rows s of a writer with the line row of the main crossing, where it stands in row y, and with that of the annotation crossing
 module _ (o : Outline) (y : ℕ) (s : PlaneSofar) (d : PlaneWriter) where
   abbrev pub main_line : Reading Rows
-  main_line = choose (eqb y o.y) (add_line (line_cell MainDoubleCrossing HorizontalDoubleCrossing HorizontalOutputDoubleLine s.output s.annotation) (rows_of s d)) (Ok (rows_of s d))
+  main_line = choose (eqb y o.y) (add_line (line_cell MainDoubleCrossing HorizontalDoubleCrossing HorizontalOutputDoubleLine s.doubles.output s.doubles.annotation) (rows_of s d)) (Ok (rows_of s d))
 
   abbrev pub line_below : Reading Rows
   line_below =
-      choose (is_at o.below y) (add_line (line_cell VerticalDoubleCrossing HorizontalAnnotationsDoubleLine HorizontalAnnotationsDoubleLine s.output s.annotation) (rows_of s d)) (Ok (rows_of s d))
+      choose (is_at o.below y) (add_line (line_cell VerticalDoubleCrossing HorizontalAnnotationsDoubleLine HorizontalAnnotationsDoubleLine s.doubles.output s.doubles.annotation) (rows_of s d)) (Ok (rows_of s d))
 
 -- row y of GRID: both line rows, and the row of its frames
 module _ (o : Outline) (find : Finder) (regions : List Rect) (p : Picture) (w y : ℕ) (s : PlaneSofar) (d : PlaneWriter) where
@@ -52,7 +52,7 @@ module _ (o : Outline) (find : Finder) (regions : List Rect) (p : Picture) (w y 
   module _ (d1 : PlaneWriter) (e : Ok (rows_of s d1) ≡ main_line o y s d) where
     pub lines_added : (d2 : PlaneWriter) → Ok (rows_of s d2) ≡ line_below o y s d1 → add_frames o find regions p w y (rows_of s d2) ≡ whole
     lines_added d2 q =
-        ap (λ (a : Reading Rows). ◌>>=◌ a (add_frames o find regions p w y)) q ∙ rw (below_line s.output s.annotation) (ap (λ (a : Reading Rows). ◌>>=◌ a behind) e)
+        ap (λ (a : Reading Rows). ◌>>=◌ a (add_frames o find regions p w y)) q ∙ rw (below_line s.doubles.output s.doubles.annotation) (ap (λ (a : Reading Rows). ◌>>=◌ a behind) e)
 
 -- the rows of GRID above row y are added: the rows are a
 pub record Growing (o : Outline) (w h count : ℕ) (l found : List ℕ) (d out : PlaneWriter) (y : ℕ) (a : Rows) : Type 0 where

@@ -24,7 +24,7 @@ use model::layer::Layer;
 use model::{Point, Refusal};
 use numbers::NumberedGrid;
 use outline::Outline;
-use plane_cells::RowSofar;
+use plane_cells::{Doubles, RowSofar};
 use plane_rows::line;
 use plane_rows::sofar::PlaneSofar;
 use rects::list::Rects;
@@ -77,7 +77,7 @@ fn make_row(
     above: PlaneSofar,
 ) -> Result<RowSofar, Refusal>
     requires { y < n.grid.height }
-    ensures made { OverNumbered n.entry (λ rs. row_made result plane.new ≡ row_by n.entry.outline (frames_in n.entry) rs (picture_of n.entry.grid) n.entry.grid.width plane.old.rows y (record { cells = []; output = above.output; annotation = above.annotation })) }
+    ensures made { OverNumbered n.entry (λ rs. row_made result plane.new ≡ row_by n.entry.outline (frames_in n.entry) rs (picture_of n.entry.grid) n.entry.grid.width plane.old.rows y (record { cells = []; output = above.doubles.output; annotation = above.doubles.annotation })) }
     ensures fits { RowFits result plane.new.rows }
     ensures kept { Kept plane.old plane.new }
 {
@@ -85,8 +85,7 @@ fn make_row(
     let mut x = corner_in_row(n.grid, 0, y);
     let mut s = RowSofar {
         cells: 0,
-        output: above.output,
-        annotation: above.annotation,
+        doubles: above.doubles,
     };
     // No `for`: each turn goes on to the next corner.
     while x < w {
@@ -115,8 +114,7 @@ fn add_frames(
     plane.end_row(width);
     Ok(PlaneSofar {
         width,
-        output: t.output,
-        annotation: t.annotation,
+        doubles: t.doubles,
     })
 }
 
@@ -149,8 +147,10 @@ fn add_grid_rows(n: NumberedGrid, plane: &mut PlaneWriter) -> Result<(), Refusal
 {
     let mut s = PlaneSofar {
         width: 0,
-        output: None,
-        annotation: None,
+        doubles: Doubles {
+            output: None,
+            annotation: None,
+        },
     };
     for y in 0..n.grid.height {
         s = add_grid_row(n, y, plane, s)?;

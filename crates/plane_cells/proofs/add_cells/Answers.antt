@@ -42,14 +42,14 @@ annotation_line c =
       | else-is_annotation w ↦ rw w.plane-is (no_line _ _ _ _ _ _ c.from-2.ensures w.if-is_annotation.false)
     ]
 
-output_column : (c : Joined-is_annotation-2) → c.if-is_output-2.output ≡ choose (eqb c.args.x c.args.o.x) (Some c.args.s.cells) c.args.s.output
+output_column : (c : Joined-is_annotation-2) → c.if-is_output-2.output ≡ choose (eqb c.args.x c.args.o.x) (Some c.args.s.cells) c.args.s.doubles.output
 output_column c =
     elim c.if-is_output-2.branch [
       | then-is_output-2 w ↦ w.output-is ∙ rw (eq-eqb _ _ w.if-is_output-2.true)
       | else-is_output-2 w ↦ w.output-is ∙ rw (ne_eqb _ _ w.if-is_output-2.false)
     ]
 
-annotation_column : (c : Joined-is_annotation-2) → c.if-is_annotation-2.annotation ≡ choose c.is_at-is_annotation.result (Some (c.args.s.cells + c.from.result)) c.args.s.annotation
+annotation_column : (c : Joined-is_annotation-2) → c.if-is_annotation-2.annotation ≡ choose c.is_at-is_annotation.result (Some (c.args.s.cells + c.from.result)) c.args.s.doubles.annotation
 annotation_column c =
     elim c.if-is_annotation-2.branch [
       | then-is_annotation-2 w ↦ w.annotation-is ∙ rw w.if-is_annotation-2.true

@@ -9,7 +9,7 @@ pub returns-then-plane-ge-PLANE_ROWS : goal.returns-then-plane-ge-PLANE_ROWS
 returns-then-plane-ge-PLANE_ROWS c =
     let l = c.args.l in
     let s = c.args.s in
-    record { made = line_over (line_cell l.output l.annotation l.plain s.output s.annotation) s c.args.plane.now c.if-plane-ge-PLANE_ROWS.true; same = refl }
+    record { made = line_over (line_cell l.output l.annotation l.plain s.doubles.output s.doubles.annotation) s c.args.plane.now c.if-plane-ge-PLANE_ROWS.true; same = refl }
 
 pub put_line-requires : goal.put_line-requires
 put_line-requires c = c.if-plane-ge-PLANE_ROWS.false
@@ -23,6 +23,6 @@ returns c =
     let s = c.args.s in
     let k = c.put_line.ensures.kept in
     record {
-      made = line_added (line_cell l.output l.annotation l.plain s.output s.annotation) s c.args.plane.now c.if-plane-ge-PLANE_ROWS.false _ _ k c.put_line.ensures.cells c.end_row.ensures;
+      made = line_added (line_cell l.output l.annotation l.plain s.doubles.output s.doubles.annotation) s c.args.plane.now c.if-plane-ge-PLANE_ROWS.false _ _ k c.put_line.ensures.cells c.end_row.ensures;
       same = c.end_row.ensures.same ∙ k.same;
     }

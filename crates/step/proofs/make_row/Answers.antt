@@ -9,7 +9,7 @@ pub corner_in_row-x-requires : goal.corner_in_row-x-requires
 corner_in_row-x-requires c = (omega arith, c.requires)
 
 pub loop-x-init : goal.loop-x-init
-loop-x-init c = filling_start _ _ _ _ _ _ _ _ _ _ _ c.requires c.corner_in_row-x.ensures
+loop-x-init c = filling_start _ _ _ _ _ _ _ _ _ _ c.requires c.corner_in_row-x.ensures
 
 pub add_frame-requires : goal.add_frame-requires
 add_frame-requires c =
