@@ -69,7 +69,7 @@ fn seek(layer: Layer, i: usize) -> Sought
     ensures { Seen (frame_of grid (picture_of layer.entry) layer.entry.width layer.entry.height) layer.entry.codes.now layer.entry.width (layer.entry.height * layer.entry.width) i result }
 {
     let size = layer.height * layer.width;
-    let at = regions::next_corner(layer.codes, size, i);
+    let at = regions::next_corner(&layer.codes[..size], i);
     let row = at / layer.width;
     let under = row + 1;
     if size <= at {

@@ -1,14 +1,19 @@
 -- A corner that is being sought.
 use mathlib.Core.Bool.{Bool, true, false}
-use mathlib.Core.Path.{◌≡◌, ap, subst, ◌∙◌}
+use mathlib.Core.Path.{◌≡◌, sym, ap, subst, ◌∙◌}
+use mathlib.Core.List.{List}
+use Rattle.std.proofs.lemmas.List.{length-take-le}
 use Prim.Native.Nat.{ℕ, ◌+◌, ◌-◌, ◌≤◌, ◌<◌}
 use native.Mathlib.Omega.{arith}
+use lib.ListN.{length, take}
+use lib.Seq.{get_or-take}
 use lib.Dec.{ltb}
 use borrow.Author.Tests.{ltb-true, ltb-false}
 use Rattle.lists.specs.OneOf.{any_at}
 use Rattle.lists.proofs.OneOfLaws.{any_found}
 use Rattle.lists.proofs.Tests.{by_flag, true_false}
-use Rattle.regions.specs.Corners.{Seeking, NextCorner}
+use Rattle.regions.specs.Corners.{corner_in, Seeking, NextCorner}
+use Rattle.regions.specs.Regions.{is_corner}
 
 pub seeking_start : (corner : ℕ → Bool) (size i : ℕ) → i ≤ size → Seeking corner size i i
 seeking_start corner size i h = record { from = omega arith; to = h; clear = λ j a b. absurd (omega arith) }
@@ -45,3 +50,15 @@ module _ {corner : ℕ → Bool} {size i k : ℕ} (q : Seeking corner size i k) 
   seeking_end h =
       let z : k ≡ size = omega (arith, q.to) in
       subst (NextCorner corner size i) z (record { from = q.from; to = q.to; clear = q.clear; found = λ l. absurd (omega arith) })
+
+-- the next corner of a list's front is that of the list
+pub next_within : (d : List ℕ) (n i k : ℕ) → n ≤ length d → NextCorner (corner_in (take n d)) (length (take n d)) i k → NextCorner (corner_in d) n i k
+next_within d n i k l q =
+    let e : length (take n d) ≡ n = length-take-le n d l in
+    let same : (j : ℕ) → j < n → corner_in d j ≡ corner_in (take n d) j = λ j b. ap is_corner (sym (get_or-take n d j 0 b)) in
+    record {
+      from = q.from;
+      to = omega (arith, q.to, e);
+      clear = λ j a b. same j (omega (arith, b, q.to, e)) ∙ q.clear j a b;
+      found = λ b. same k b ∙ q.found (omega (arith, b, e));
+    }

@@ -1,19 +1,22 @@
 -- Corners that are being counted, and regions that are being added.
-use Rattle.std.specs.Prelude.{Ok, Err, ℕ}
+use Rattle.std.specs.Prelude.{Ok, Err, ℕ, cond}
+use Rattle.std.specs.List.{filter}
+use Rattle.std.proofs.lemmas.List.{length-take-le}
 use mathlib.Core.Path.{◌≡◌, refl, sym, ap, ◌∙◌, subst}
 use mathlib.Core.Bool.{Bool, true, false}
 use mathlib.Core.List.{List, [], ◌∷◌, ◌++◌}
-use Prim.Native.Nat.{ℕ, ◌+◌, ◌-◌, ◌*◌, ◌/◌, ◌%◌, ◌≤◌, ◌<◌}
-use native.Mathlib.Nat.{sub-zero}
+use Prim.Native.Nat.{ℕ, suc, ◌+◌, ◌-◌, ◌*◌, ◌/◌, ◌%◌, ◌≤◌, ◌<◌}
+use native.Mathlib.Nat.{sub-zero, add-zero, zero-add}
 use native.Mathlib.Omega.{arith}
-use lib.ListN.{length, length-append}
+use lib.ListN.{length, length-append, get_or, take}
+use lib.Seq.{get_or-take}
 use lib.Dec.{ltb}
 use borrow.Author.Tests.{lt-ltb, le-ltb, ltb-true}
 use Rattle.lists.specs.Answer.{◌>>=◌, each, those, Below}
 use Rattle.lists.specs.Choose.{choose}
 use Rattle.lists.specs.Picture.{Picture, canvas, at}
 use Rattle.lists.specs.Run.{run}
-use Rattle.lists.proofs.AnswerLaws.{refused-ok, then_ok, those-next, those-from, turn_on, turn_out, turn_end, each_below}
+use Rattle.lists.proofs.AnswerLaws.{refused-ok, then_ok, those-from, turn_on, turn_out, turn_end, each_below}
 use Rattle.lists.proofs.PlaceLaws.{column_in, row_in_lem, at-canvas}
 use Rattle.lists.proofs.RunLaws.{length_run}
 use Rattle.model.specs.Limits.{region_count}
@@ -40,32 +43,26 @@ left p w h i = those (corner_at p w) i (h * w - i)
 start_left : (p : Picture) (w h : ℕ) → left p w h 0 ≡ corners_of p w h
 start_left p w h = rw sub-zero
 
--- n corners stand before place i
-pub record Counting (p : Picture) (w h i n : ℕ) : Type 0 where
-  pub along : i ≤ h * w
-  pub few : n ≤ i
-  pub same : n + length (left p w h i) ≡ length (corners_of p w h)
+-- how many corners the characters of a picture have from place i on, which a list has
+those-length : (p : Picture) (w i : ℕ) (xs : List ℕ) → ((j : ℕ) → j < length xs → at p w (i + j) ≡ get_or xs j 0)
+    → length (filter is_corner xs) ≡ length (those (corner_at p w) i (length xs))
+unfolding those
+those-length p w i [] h = refl
+those-length p w i (x ∷ xs) h =
+    let e : at p w i ≡ x = rw (add-zero i) at (h 0 (omega arith)) in
+    let next : (j : ℕ) → j < length xs → at p w (suc i + j) ≡ get_or xs j 0 = λ j l. let z : i + suc j ≡ suc i + j = omega arith in rw z at (h (suc j) (omega arith)) in
+    rw e (go (is_corner x) _ _ (those-length p w (suc i) xs next))
+  where
+    go : (t : Bool) (a b : List ℕ) → length a ≡ length b → length (cond t (x ∷ a) a) ≡ length (choose t (i ∷ b) b)
+    go true a b q = ap suc q
+    go false a b q = q
 
-pub counting_start : (p : Picture) (w h : ℕ) → Counting p w h 0 0
-counting_start p w h = record { along = omega arith; few = omega arith; same = omega (arith, ap length (start_left p w h)) }
-
-module _ {p : Picture} {w h i n : ℕ} (q : Counting p w h i n) where
-  module _ (l : i < h * w) where
-    next-left : {t : Bool} → corner_at p w i ≡ t → left p w h i ≡ choose t (i ∷ left p w h (i + 1)) (left p w h (i + 1))
-    next-left e = those-next (corner_at p w) i (h * w) l ∙ rw e
-
-    pub counting_hit : corner_at p w i ≡ true → Counting p w h (i + 1) (n + 1)
-    counting_hit e = let m = ap length (next-left e) in record { along = omega arith; few = omega (arith, q.few); same = omega (arith, q.same) }
-
-    pub counting_miss : corner_at p w i ≡ false → Counting p w h (i + 1) n
-    counting_miss e = let m = ap length (next-left e) in record { along = omega arith; few = omega (arith, q.few); same = omega (arith, q.same) }
-
-  pub counting_end : h * w ≤ i → n ≡ length (corners_of p w h)
-  unfolding those
-  counting_end l =
-      let z : h * w - i ≡ 0 = omega arith in
-      let m : length (left p w h i) ≡ 0 = rw z in
-      omega (arith, q.same)
+pub corners-counted : (w h : ℕ) (l : List ℕ) → h * w ≤ length l → length (filter is_corner (take (h * w) l)) ≡ length (corners_of (canvas w h l) w h)
+corners-counted w h l s =
+    let d = take (h * w) l in
+    let n : length d ≡ h * w = length-take-le (h * w) l s in
+    let same : (j : ℕ) → j < length d → at (canvas w h l) w (0 + j) ≡ get_or d j 0 = λ j b. rw (zero-add j) (at-canvas w h j (omega (arith, n)) l ∙ sym (get_or-take (h * w) l j 0 (omega (arith, n)))) in
+    those-length (canvas w h l) w 0 d same ∙ ap (λ (m : ℕ). length (those (corner_at (canvas w h l) w) 0 m)) n
 
 -- a place of a layer
 pub place_of : (w h i : ℕ) → (l : i < h * w) → Place w h (i % w) (i / w)

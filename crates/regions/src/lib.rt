@@ -1,8 +1,11 @@
 // The regions of THIN, in row order, as rects in a slice of four numbers each.
-// The slice of the rects is lent by the caller, in C too: its numbers and its size are fixed.
+// The slice of the rects is lent by the caller, in C too: its numbers and its size are fixed. A writer of slice and number
+// is no plainer: two functions hand them on, each answers the next number, and that is what is told in the end.
+// `SmallSizes` is no fact of every `Layer`, of which no more is asked than `sized`: here numbers of 32 bits hold a rect.
 #![tactic(auto)]
 
 ghost use Rattle.std.specs.Prelude.{◌≡◌, [], ◌+◌, ◌*◌, ◌<◌, ◌≤◌, length};
+ghost use Rattle.std.specs.List.{filter};
 ghost use Rattle.lists.specs.Answer.{each};
 ghost use Rattle.lists.specs.OneOf.{any_at};
 ghost use Rattle.model.specs.Layers.{picture_of};
@@ -41,13 +44,13 @@ fn in_four(codes: &[u32], k: usize) -> bool
 }
 
 // Past fours of places from i on in which no corner stands.
-fn skip_fours(codes: &[u32], size: usize, i: usize) -> usize
-    requires { (i ≤ size) × (size ≤ length codes.now) }
-    ensures { Seeking (corner_in codes.now) size i result }
+fn skip_fours(codes: &[u32], i: usize) -> usize
+    requires { i ≤ length codes.now }
+    ensures { Seeking (corner_in codes.now) (length codes.now) i result }
 {
     let mut k = i;
     // No `for`: each turn goes on by four places, and where it ends is the answer.
-    while 4 <= size - k {
+    while 4 <= codes.len() - k {
         if in_four(codes, k) {
             return k;
         }
@@ -56,32 +59,31 @@ fn skip_fours(codes: &[u32], size: usize, i: usize) -> usize
     k
 }
 
-// The first corner from place i on, or `size`.
-pub fn next_corner(codes: &[u32], size: usize, i: usize) -> usize
-    requires { (i ≤ size) × (size ≤ length codes.now) }
-    ensures { NextCorner (corner_in codes.now) size i result }
+// The first corner from place i on, or how many places there are.
+pub fn next_corner(codes: &[u32], i: usize) -> usize
+    requires { i ≤ length codes.now }
+    ensures { NextCorner (corner_in codes.now) (length codes.now) i result }
 {
-    for k in skip_fours(codes, size, i)..size {
+    for k in skip_fours(codes, i)..codes.len() {
         if is_corner(codes[k]) {
             return k;
         }
     }
-    size
+    codes.len()
+}
+
+// How many corners a list has.
+fn corners_in(codes: &[u32]) -> usize
+    ensures { result ≡ length (filter is_corner codes.now) }
+{
+    codes.iter().filter(|c| is_corner(**c)).count()
 }
 
 // The corners of a layer.
 fn count_corners(layer: Layer) -> usize
     ensures { result ≡ length (corners_of (picture_of layer.entry) layer.entry.width layer.entry.height) }
 {
-    let codes = layer.codes;
-    let size = layer.height * layer.width;
-    let mut n = 0;
-    for i in 0..size {
-        if is_corner(codes[i]) {
-            n += 1;
-        }
-    }
-    n
+    corners_in(&layer.codes[..layer.height * layer.width])
 }
 
 // The region whose corner stands at place i, as rect n.
@@ -115,14 +117,14 @@ fn regions_within(layer: Layer, rects: &mut [u32]) -> Result<usize, Refusal>
     requires { SmallSizes layer.width layer.height × (region_count * 4 ≤ length rects.old) }
     ensures { regions_in result rects.new ≡ each (add_within (frame_of thin (picture_of layer.entry) layer.entry.width layer.entry.height) layer.entry.width) (corners_of (picture_of layer.entry) layer.entry.width layer.entry.height) [] }
 {
-    let codes = layer.codes;
     let size = layer.height * layer.width;
-    let mut i = next_corner(codes, size, 0);
+    let codes = &layer.codes[..size];
+    let mut i = next_corner(codes, 0);
     let mut n = 0;
     // No `for`: each turn goes on to the next corner.
     while i < size {
         n = add_within(layer, i, rects, n)?;
-        i = next_corner(codes, size, i + 1);
+        i = next_corner(codes, i + 1);
     }
     Ok(n)
 }

@@ -40,7 +40,7 @@ fn why_none(spot: Spot) -> Refusal
     }
 }
 
-// The cells of the frame that starts at a place.
+// The cells of the frame that starts at a place: one of the grid that `n` has, so no `Spot`, which would bring its own.
 fn add_frame(
     n: NumberedGrid,
     at: Point,
@@ -66,7 +66,7 @@ fn corner_in_row(layer: Layer, x: usize, y: usize) -> usize
     ensures { NextCorner (λ i. is_corner (pic layer.entry.width layer.entry.codes.now i y)) layer.entry.width x result }
 {
     let start = y * layer.width;
-    regions::next_corner(layer.codes, start + layer.width, start + x) - start
+    regions::next_corner(&layer.codes[..start + layer.width], start + x) - start
 }
 
 // The frames that start in row y, as the next row of the plane, not yet ended.

@@ -1,12 +1,14 @@
 -- `lookup::seek` meets its contract.
 use Rattle.std.specs.Prelude.{Ok, Err, Some, List}
 use mathlib.Core.Path.{◌≡◌, refl, sym, ap, ◌∙◌}
-use Prim.Native.Nat.{ℕ, ◌+◌, ◌/◌, ◌<◌, ◌^◌}
+use Prim.Native.Nat.{ℕ, ◌+◌, ◌*◌, ◌/◌, ◌<◌, ◌^◌}
 use native.Mathlib.Nat.{div-le_self}
 use native.Mathlib.Omega.{arith}
 use Rattle.lists.specs.Picture.{Picture}
 use Rattle.lists.proofs.PlaceLaws.{columns}
 use Rattle.model.specs.declared.Rect.{Rect}
+use Rattle.regions.specs.Corners.{corner_in, NextCorner}
+use Rattle.regions.proofs.CornerLaws.{next_within}
 use Rattle.model.specs.Refusals.{Reading}
 use Rattle.walks.specs.Frame.{Kind, frame_of}
 use Rattle.walks.proofs.FrameLaws.{accepted}
@@ -34,16 +36,20 @@ number_ok rs (Err r) = refl
 pub nonzero_div-row : goal.nonzero_div-row
 nonzero_div-row c = columns c.args.layer.width c.args.layer.height c.args.i c.requires
 
+-- the next corner of the layer
+next : (c : After-next_corner-at) → let l = c.args.layer in NextCorner (corner_in l.codes.now) (l.height * l.width) c.args.i c.next_corner-at.result
+next c = let l = c.args.layer in next_within l.codes.now (l.height * l.width) c.args.i c.next_corner-at.result l.sized c.next_corner-at.ensures
+
 -- the rows under a corner are numbers
 rows_fit : (c : After-next_corner-at) → c.next_corner-at.result / c.args.layer.width + 2 < 2 ^ 64
 rows_fit c =
-    omega (arith, div-le_self c.next_corner-at.result c.args.layer.width, c.next_corner-at.ensures.to, c.args.layer.sized, c.well_formed)
+    omega (arith, div-le_self c.next_corner-at.result c.args.layer.width, (next c).to, c.args.layer.sized, c.well_formed)
 
 pub overflow_add-under : goal.overflow_add-under
 overflow_add-under c = omega (arith, rows_fit c)
 
 pub returns-then-size-at : goal.returns-then-size-at
-returns-then-size-at c = record { next = c.next_corner-at.ensures; under = refl; ends = λ f e. absurd cc; frame = λ l rs. absurd (omega (arith, c.if-size-at.true)) }
+returns-then-size-at c = record { next = next (goal.at.returns-then-size-at c).After-next_corner-at; under = refl; ends = λ f e. absurd cc; frame = λ l rs. absurd (omega (arith, c.if-size-at.true)) }
 
 pub nonzero_rem-corner : goal.nonzero_rem-corner
 nonzero_rem-corner c = let l = c.args.layer in columns l.width l.height c.next_corner-at.result c.if-size-at.false
@@ -51,7 +57,7 @@ nonzero_rem-corner c = let l = c.args.layer in columns l.width l.height c.next_c
 pub returns : goal.returns
 returns c =
     record {
-      next = c.next_corner-at.ensures;
+      next = next (goal.at.returns c).After-next_corner-at;
       under = refl;
       ends = λ f e. ends_below _ _ _ _ _ _ f (sym c.recognize_rectangle.ensures ∙ some_ok _ f (sym c.ok-frame.ensures.value ∙ e));
       frame = λ l rs. ap (number_in rs) c.ok-frame.ensures.value ∙ number_ok rs _ ∙ ap (first_in rs) c.recognize_rectangle.ensures;

@@ -4,7 +4,7 @@ use Rattle.regions.proofs.CornerLaws.{seeking_start, seeking_four}
 use Rattle.regions.proofs.skip_fours.Goals as goal
 
 pub loop-k-init : goal.loop-k-init
-loop-k-init c = seeking_start _ _ _ c.requires.0
+loop-k-init c = seeking_start _ _ _ c.requires
 
 pub loop-k-preserved : goal.loop-k-preserved
 loop-k-preserved c =

@@ -1,9 +1,10 @@
 use Prim.Native.Nat.{◌-◌}
+use lib.ListN.{length}
 use Rattle.regions.specs.Corners.{corner_in, Seeking}
 use Rattle.regions.proofs.skip_fours.Given as goal
 
 abbrev pub invariant-loop-k : goal.invariant-loop-k
-invariant-loop-k l = Seeking (corner_in l.codes) l.size l.i l.k
+invariant-loop-k l = Seeking (corner_in l.codes) (length l.codes) l.i l.k
 
 abbrev pub decreases-loop-k : goal.decreases-loop-k
-decreases-loop-k l = l.size - l.k
+decreases-loop-k l = length l.codes - l.k
