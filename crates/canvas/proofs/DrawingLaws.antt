@@ -19,8 +19,8 @@ use Rattle.outline.specs.Outline.{outline_of}
 use Rattle.outline.specs.declared.Outline.{Outline}
 use Rattle.outline.proofs.InsideLaws.{outline_inside}
 use Rattle.sheet_rows.specs.Rows.{rows_at, widest}
+use Rattle.sheet_rows.specs.declared.Extent.{Extent}
 use Rattle.scan.specs.Canvas.{size_of, text_in, blanks_in, scanned_in}
-use Rattle.scan.specs.declared.Canvas.{Canvas}
 use Rattle.scan.proofs.Answers.{scanned_size, fits-size}
 use Rattle.scan.proofs.TextLayer.{text-canvas, blanks_canvas}
 use Rattle.utf8.specs.Utf8.{checked, on_text}
@@ -49,7 +49,7 @@ refused-behind s c r x e f g = rw (f, ← e) (go c)
     go (Ok u) = g
     go (Err at) = refl
 
-module _ (rs : List (List ℕ)) (a : Canvas) (e : scanned_in (Ok a) ≡ size_of rs) where
+module _ (rs : List (List ℕ)) (a : Extent) (e : scanned_in (Ok a) ≡ size_of rs) where
   pub canvas-fits : a.rows * a.columns ≤ canvas_size
   canvas-fits = let q = scanned_size rs a e in rw (q.1, q.2) (fits-size rs q.0).2
 

@@ -60,6 +60,8 @@ fn behind_utf8(c: Result<(), usize>, r: Refusal) -> Refusal
 }
 
 // Draws the first sheet in a text that has to be well-formed. What the scan has read is not checked again.
+// The work slices stand side by side: each function that hands a struct of `&mut` slices on would promise of each slice
+// that the struct still lends it, as `cells` does by `SameSlice`; parameters need no such clause.
 pub fn draw_sheet(
     s: &[u8],
     text: &mut [u32],
@@ -76,7 +78,7 @@ pub fn draw_sheet(
         Ok(c) => c,
         Err(r) => return Err(behind_utf8(code_points::validate(s), r)),
     };
-    line_checks::validate_lines(s, c.valid).map_err(Refusal::InvalidUtf8)?;
+    line_checks::validate_lines(s, c.end.valid).map_err(Refusal::InvalidUtf8)?;
     let layer = Layer {
         codes: text,
         width: c.columns,
@@ -87,7 +89,7 @@ pub fn draw_sheet(
     Ok(Drawing {
         rows: c.rows,
         columns: c.columns,
-        end: c.end,
+        end: c.end.at,
         outline,
     })
 }

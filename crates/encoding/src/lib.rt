@@ -1,5 +1,5 @@
 // Code points written as UTF-8.
-// A slice with a place or a count: it is lent by the caller, in C too, as `record` says.
+// `out` with a place, and no vector: the texts of regions are written to a slice that the caller lends, in C too.
 #![tactic(auto)]
 
 ghost use Rattle.std.specs.Prelude.{◌≡◌, ◌+◌, ◌<◌, ◌≤◌, length, set};
@@ -14,6 +14,7 @@ fn put_byte(out: &mut [u8], at: usize, b: u32)
 }
 
 // The bytes of a code point, into out from `at` on; the place behind them.
+// By hand, where the library has `char::encode_utf8`: a layer holds numbers, and this asks of none that it is a `char`.
 pub fn put_code(out: &mut [u8], at: usize, c: u32) -> usize
     requires { at + 4 ≤ length out.old }
     ensures { (result ≡ at + length (encode c)) × (out.new ≡ put out.old at (encode c)) }

@@ -60,36 +60,37 @@ fn skip_some(s: &[u8], at: usize, n: usize) -> usize
     skip_plain(s, at + n)
 }
 
-// Where the next line starts, and up to where the bytes are valid.
+// How far a text is read, and up to where its bytes are valid.
 #[derive(Clone, Copy)]
-pub struct LineEnd {
-    pub next: usize,
+pub struct ReadTo {
+    pub at: usize,
     pub valid: usize,
 }
 
-pub fn line_end(s: &[u8], from: usize) -> LineEnd
+// A line is read: the next one starts there.
+pub fn line_end(s: &[u8], from: usize) -> ReadTo
     requires { from ≤ length s.now }
-    ensures next { NextFrom s.now from result.next }
-    ensures valid { ValidTo s.now from result.next result.valid }
+    ensures next { NextFrom s.now from result.at }
+    ensures valid { ValidTo s.now from result.at result.valid }
 {
     let mut p = skip_plain(s, from);
     // No `for`: each turn goes on by the bytes of a code point.
     while p < s.len() {
         let Some(n) = utf8::passed(s, p) else {
-            return LineEnd {
-                next: s.len(),
+            return ReadTo {
+                at: s.len(),
                 valid: p,
             };
         };
         if s[p] == 10 {
-            return LineEnd {
-                next: p + 1,
+            return ReadTo {
+                at: p + 1,
                 valid: p + 1,
             };
         }
         p = skip_some(s, p, n);
     }
-    LineEnd { next: p, valid: p }
+    ReadTo { at: p, valid: p }
 }
 
 // The check of the bytes from an index on, line by line.
@@ -101,7 +102,7 @@ pub fn validate_lines(s: &[u8], from: usize) -> Result<(), usize>
     // No `for`: each turn goes on by a line.
     while at < s.len() {
         let e = line_end(s, at);
-        at = e.next;
+        at = e.at;
         valid = e.valid;
     }
     code_points::validate_from(s, valid)

@@ -9,7 +9,7 @@ pub mod list;
 
 use model::Rect;
 
-// Rect n of a slice.
+// Rect n of a slice. No writer that holds the slice and n: whoever hands one on promises that it lends the same slice.
 pub fn put_rect(rects: &mut [u32], n: usize, r: Rect)
     requires { (n * 4 + 4 ≤ length rects.old) × Small r }
     ensures { rects_of rects.new (n + 1) ≡ rects_of rects.old n ++ (r ∷ []) }

@@ -17,14 +17,14 @@ use Rattle.model.specs.Refusals.{Reading}
 use Rattle.model.specs.declared.Refusal.TheVariants.{CanvasTooLarge}
 use Rattle.utf8.specs.Utf8.{SameCheck}
 use Rattle.sheet_rows.specs.Found.{StartAt, Measured, rows_in, Counted, Kept}
+use Rattle.sheet_rows.specs.declared.Extent.{Extent}
 use Rattle.sheet_rows.specs.declared.Row.{Row}
 use Rattle.sheet_rows.specs.Rows.{rows_at, widest}
 use Rattle.scan.specs.Canvas.{Size, fits, size_of, text_in, blanks_in, scanned_in, Ended, ValidIn}
 use Rattle.scan.specs.Rows.{blank, flat}
-use Rattle.scan.specs.declared.Canvas.{Canvas}
 
 -- an answered canvas has the size of the rows, and they fit
-pub scanned_size : (rs : List (List ℕ)) (c : Canvas) → scanned_in (Ok c) ≡ size_of rs → (fits rs ≡ true) × (c.rows ≡ length rs) × (c.columns ≡ widest rs)
+pub scanned_size : (rs : List (List ℕ)) (c : Extent) → scanned_in (Ok c) ≡ size_of rs → (fits rs ≡ true) × (c.rows ≡ length rs) × (c.columns ≡ widest rs)
 unfolding size_of
 scanned_size rs c q =
     by_flag (fits rs)
@@ -42,7 +42,7 @@ fits-size rs f =
     (w, h, mul-le-mul h w)
 
 -- what `scan` promises of the answer r, where TEXT was d and is o, and BODY was b and is p
-abbrev Answered : List ℕ → ℕ → List ℕ → List ℕ → Reading Canvas → List ℕ → List ℕ → Type 0
+abbrev Answered : List ℕ → ℕ → List ℕ → List ℕ → Reading Extent → List ℕ → List ℕ → Type 0
 Answered s from d b r o p =
     (scanned_in r ≡ size_of (rows_at s from)) × (Ended r s from × (ValidIn r s from × ((o ≡ text_in (rows_at s from) d) × (p ≡ blanks_in (rows_at s from) b))))
 
@@ -65,17 +65,17 @@ module _ {s : List ℕ} {from at rows columns end : ℕ} (i : StartAt s from at)
     scan_columns h = large (rw (← width, lt-leb columns canvas_columns h) (and-false (leb (length (rows_at s from)) canvas_rows)))
 
     module _ (h : rows ≤ canvas_rows) (k : columns ≤ canvas_columns) {kept : List Row} (q : Kept s at kept rows) where
-      pub scan_room : canvas_rows ≤ length kept → canvas_size ≤ length d → canvas_size ≤ length b
-          → Counted s kept rows × (rows ≤ length kept) × (widest (rows_in s kept rows) ≤ columns) × (rows * columns ≤ length d) × (rows * columns ≤ length b)
-      scan_room l n o =
+      pub scan_room : canvas_size ≤ length d → canvas_size ≤ length b
+          → Counted s kept rows × (widest (rows_in s kept rows) ≤ columns) × (rows * columns ≤ length d) × (rows * columns ≤ length b)
+      scan_room n o =
           let r : rows * columns ≤ canvas_size = mul-le-mul h k in
-          (q.counted, omega arith, omega (arith, m.width, ap widest q.same), omega arith, omega arith)
+          (q.counted, omega (arith, m.width, ap widest q.same), omega arith, omega arith)
 
       fitting : fits (rows_at s from) ≡ true
       fitting = rw (← height, ← width, le-leb rows canvas_rows h, le-leb columns canvas_columns k)
 
       pub scan_canvas : (valid : ℕ) {o p : List ℕ} → SameCheck s from valid → (o ≡ put d 0 (flat columns (rows_in s kept rows))) × (p ≡ put b 0 (flat columns (map blank (rows_in s kept rows))))
-          → Answered s from d b (Ok (record { rows = rows; columns = columns; end = end; valid = valid })) o p
+          → Answered s from d b (Ok (record { rows = rows; columns = columns; end = record { at = end; valid = valid } })) o p
       unfolding size_of text_in blanks_in
       scan_canvas valid v w =
           let e : rows_in s kept rows ≡ rows_at s from = q.same ∙ sym i.same in (

@@ -3,7 +3,7 @@ use mathlib.Core.Path.{◌≡◌, refl, sym, ap, ◌∙◌}
 use mathlib.Core.List.{List, [], ◌∷◌, ◌++◌}
 use Prim.Native.Nat.{ℕ, ◌+◌, ◌-◌, ◌≤◌, ◌<◌}
 use native.Mathlib.Omega.{arith}
-use lib.ListN.{length, take, drop, set, replicate, length-append, length-drop, length-take, length-set, length-replicate, replicate-append-replicate}
+use lib.ListN.{length, take, drop, set, replicate, length-append, length-drop, length-take, length-set}
 use lib.Seq.{drop-drop}
 use Rattle.lists.specs.Put.{put}
 use Rattle.lists.proofs.Parts.{take_next, drop-next}
@@ -68,31 +68,6 @@ module _ {s : List ℕ} {from count : ℕ} {d : List ℕ} {base : ℕ} {out : Li
       let l = q.along in
       let e : i ≡ count = omega arith in
       q.done ∙ ap (λ (k : ℕ). put d base (take k (codes (drop from s)))) e
-
--- a code point is written i times
-pub record Filling (d : List ℕ) (base n code : ℕ) (out : List ℕ) (i : ℕ) : Type 0 where
-  pub along : i ≤ n
-  pub done : out ≡ put d base (replicate i code)
-  pub long : length out ≡ length d
-
-pub filling_start : (d : List ℕ) (base n code : ℕ) → Filling d base n code d 0
-filling_start d base n code = record { along = omega arith; done = sym (put_nil d base); long = refl }
-
-module _ {d : List ℕ} {base n code : ℕ} {out : List ℕ} {i : ℕ} (q : Filling d base n code out i) where
-  pub filling_more : i < n → base + n ≤ length d → Filling d base n code (set out (base + i) code) (i + 1)
-  filling_more h r =
-      let l = length-replicate i code in
-      record {
-        along = omega arith;
-        done = ap (λ (x : List ℕ). set x (base + i) code) q.done ∙ put_snoc d base (replicate i code) code (base + i) (omega arith) (omega arith) ∙ ap (put d base) (replicate-append-replicate i 1 code);
-        long = length-set out (base + i) code ∙ q.long;
-      }
-
-  pub filling_done : n ≤ i → out ≡ put d base (replicate n code)
-  filling_done h =
-      let l = q.along in
-      let e : i ≡ n = omega arith in
-      q.done ∙ ap (λ (k : ℕ). put d base (replicate k code)) e
 
 -- a text and the ░ behind it, written one after the other, are a row
 pub row_written : (d : List ℕ) (base : ℕ) (t : List ℕ) (width count : ℕ) {o o' : List ℕ} → count ≡ length t → count ≤ width → base + width ≤ length d

@@ -8,8 +8,8 @@ use Rattle.model.specs.declared.Refusal.TheVariants.{CanvasTooLarge}
 use Rattle.utf8.specs.Utf8.{codes, SameCheck}
 use Rattle.sheet_rows.specs.Rows.{widest}
 use Rattle.sheet_rows.specs.Sheet.{rest_of}
+use Rattle.sheet_rows.specs.declared.Extent.{Extent}
 use Rattle.scan.specs.Rows.{blank, flat}
-use Rattle.scan.specs.declared.Canvas.{Canvas}
 
 -- the size of a canvas
 pub record Size : Type 0 where
@@ -34,16 +34,16 @@ unfoldable pub blanks_in : List (List ℕ) → List ℕ → List ℕ
 blanks_in rs d = choose (fits rs) (put d 0 (flat (widest rs) (map blank rs))) d
 
 -- an answer's size
-abbrev pub scanned_in : Reading Canvas → Reading Size
+abbrev pub scanned_in : Reading Extent → Reading Size
 scanned_in (Ok c) = Ok (record { height = c.rows; width = c.columns })
 scanned_in (Err r) = Err r
 
 -- an answer's end: the bytes from there on are those behind the sheet
-abbrev pub Ended : Reading Canvas → List ℕ → ℕ → Type 0
-Ended (Ok c) s at = (c.end ≤ length s) × (codes (drop c.end s) ≡ rest_of (codes (drop at s)))
+abbrev pub Ended : Reading Extent → List ℕ → ℕ → Type 0
+Ended (Ok c) s at = (c.end.at ≤ length s) × (codes (drop c.end.at s) ≡ rest_of (codes (drop at s)))
 Ended (Err r) s at = Unit {0}
 
 -- an answer's check of UTF-8: it goes on where the answer says
-abbrev pub ValidIn : Reading Canvas → List ℕ → ℕ → Type 0
-ValidIn (Ok c) s at = SameCheck s at c.valid
+abbrev pub ValidIn : Reading Extent → List ℕ → ℕ → Type 0
+ValidIn (Ok c) s at = SameCheck s at c.end.valid
 ValidIn (Err r) s at = Unit {0}

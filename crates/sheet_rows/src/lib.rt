@@ -2,89 +2,91 @@
 // Places are indices into the whole text, as in `utf8`.
 #![tactic(auto)]
 
-ghost use Rattle.std.specs.Prelude.{◌≡◌, ◌≤◌, ◌<◌, length, set};
+ghost use Rattle.std.specs.Prelude.{[], ◌∷◌, ◌++◌, ◌≡◌, ◌≤◌, ◌<◌, length};
+ghost use Rattle.arrayvec.specs.ArrayVec.{array_vec_len};
 ghost use Rattle.model.specs.Limits.{canvas_rows};
 ghost use Rattle.white_space.specs.Lines.{ValidTo};
 ghost use Rattle.utf8.specs.Utf8.{SameCheck};
 ghost use Rattle.sheet_rows.specs.Found.{StartAt, Measured, Kept};
 
-use model::{box_drawing, limits};
-
-// Where a sheet starts, and up to where the bytes before it are valid.
-#[derive(Clone, Copy)]
-pub struct SheetStart {
-    pub at: usize,
-    pub valid: usize,
-}
+use arrayvec::ArrayVec;
+use line_checks::ReadTo;
+use model::box_drawing;
+use model::limits::CANVAS_ROWS;
 
 // The first line from `from` on whose text begins with ┌, or the end.
-pub fn sheet_start(s: &[u8], from: usize) -> SheetStart
+pub fn sheet_start(s: &[u8], from: usize) -> ReadTo
     requires { from ≤ length s.now }
     ensures start { StartAt s.now from result.at }
     ensures valid { ValidTo s.now from result.at result.valid }
 {
-    let mut at = from;
-    let mut valid = from;
+    let mut start = ReadTo {
+        at: from,
+        valid: from,
+    };
     // No `for`: each turn goes on by a line.
-    while at < s.len() {
-        let l = text_lines::line_head(s, at);
+    while start.at < s.len() {
+        let l = text_lines::line_head(s, start.at);
         if l.first == box_drawing::LIGHT_DOWN_AND_RIGHT {
-            return SheetStart { at, valid };
+            return start;
         }
-        at = l.next;
-        valid = l.valid;
+        start = l.end;
     }
-    SheetStart { at, valid }
+    start
 }
 
 // A row of a sheet: where it starts and how many code points it has.
-#[derive(Clone, Copy)]
+#[derive(Clone, Copy, Default)]
 pub struct Row {
     pub from: usize,
     pub count: usize,
 }
 
-// Keeps row n, if a canvas can have that row.
-fn keep_row(rows: &mut [Row], n: usize, row: Row)
-    requires { canvas_rows ≤ length rows.old }
-    ensures { n < canvas_rows → rows.new ≡ set rows.old n row }
+// Keeps a row, if a canvas can have it.
+fn keep_row(kept: &mut ArrayVec<Row, CANVAS_ROWS>, row: Row)
+    ensures { array_vec_len kept.old < canvas_rows → kept.new.items ≡ kept.old.items ++ (row ∷ []) }
 {
-    if n < limits::CANVAS_ROWS {
-        rows[n] = row;
+    if !kept.is_full() {
+        kept.push(row);
     }
 }
 
-// How many rows a sheet has, how many code points the longest, where the text behind it starts, and up to where the bytes are valid.
+// How many rows a sheet has, how many code points the longest, and where the sheet ends.
 #[derive(Clone, Copy)]
 pub struct Extent {
     pub rows: usize,
     pub columns: usize,
-    pub end: usize,
-    pub valid: usize,
+    pub end: ReadTo,
 }
 
-// Measures the sheet whose first line starts at a place, and keeps its rows. The bytes before it are valid up to `valid`.
-pub fn measure(s: &[u8], at: usize, valid: usize, kept: &mut [Row]) -> Extent
-    requires { (at ≤ length s.now) × (at < length s.now → valid ≡ at) × (canvas_rows ≤ length kept.old) }
-    ensures measured { Measured s.now at result.rows result.columns result.end }
-    ensures kept { result.rows ≤ canvas_rows → Kept s.now at kept.new result.rows }
-    ensures valid { SameCheck s.now valid result.valid }
+// The rows of a sheet, as many as a canvas can have, and its extent.
+#[derive(Drop)]
+pub struct SheetRows {
+    pub kept: ArrayVec<Row, CANVAS_ROWS>,
+    pub extent: Extent,
+}
+
+// Measures the sheet whose first line starts at a place, and keeps its rows.
+pub fn measure(s: &[u8], start: ReadTo) -> SheetRows
+    requires { (start.at ≤ length s.now) × (start.at < length s.now → start.valid ≡ start.at) }
+    ensures measured { Measured s.now start.at result.extent.rows result.extent.columns result.extent.end.at }
+    ensures all { result.extent.rows ≤ canvas_rows → array_vec_len result.kept ≡ result.extent.rows }
+    ensures kept { result.extent.rows ≤ canvas_rows → Kept s.now start.at result.kept.items result.extent.rows }
+    ensures valid { SameCheck s.now start.valid result.extent.end.valid }
 {
-    let mut p = at;
-    let mut v = valid;
+    let mut kept = ArrayVec::new();
+    let mut end = start;
     let mut rows: usize = 0;
     let mut columns: usize = 0;
     // No `for`: each turn goes on by a line.
-    while p < s.len() {
-        let l = text_lines::line_at(s, p);
-        let count = l.count;
-        let last = l.last;
-        p = l.next;
-        v = l.valid;
+    while end.at < s.len() {
+        let l = text_lines::line_at(s, end.at);
+        let count = l.rest.count;
+        let last = l.rest.last;
+        end = l.rest.end;
         if 0 < count {
             keep_row(
-                kept,
-                rows,
+                &mut kept,
                 Row {
                     from: l.from,
                     count,
@@ -93,19 +95,15 @@ pub fn measure(s: &[u8], at: usize, valid: usize, kept: &mut [Row]) -> Extent
             rows += 1;
             columns = columns.max(count);
             if last == box_drawing::LIGHT_UP_AND_LEFT {
-                return Extent {
-                    rows,
-                    columns,
-                    end: p,
-                    valid: v,
+                return SheetRows {
+                    kept,
+                    extent: Extent { rows, columns, end },
                 };
             }
         }
     }
-    Extent {
-        rows,
-        columns,
-        end: p,
-        valid: v,
+    SheetRows {
+        kept,
+        extent: Extent { rows, columns, end },
     }
 }

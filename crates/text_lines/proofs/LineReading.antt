@@ -176,8 +176,8 @@ pub record Scanned (s : List ℕ) (from p k count last : ℕ) : Type 0 where
 abbrev pub Found : List ℕ → ℕ → ℕ → ℕ → ℕ → ℕ → Type 0
 Found s from count last next valid = RestAt s from count last next × ValidTo s from next valid
 
-pub found_in : {s : List ℕ} {from count last next valid : ℕ} (r : Rest) → r ≡ record { count = count; last = last; next = next; valid = valid }
-    → Found s from count last next valid → Found s from r.count r.last r.next r.valid
+pub found_in : {s : List ℕ} {from count last next valid : ℕ} (r : Rest) → r ≡ record { count = count; last = last; end = record { at = next; valid = valid } }
+    → Found s from count last next valid → Found s from r.count r.last r.end.at r.end.valid
 found_in r e f = rw e f
 
 -- at first there is no last code point, as at the end of the bytes

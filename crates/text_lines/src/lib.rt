@@ -9,6 +9,7 @@ ghost use Rattle.white_space.specs.Lines.{LineAt, HeadAt, ValidTo};
 ghost use Rattle.text_lines.specs.LineScan.{lead, RestAt, seen_of, WordAt, head_of};
 ghost use Rattle.text_lines.specs.declared.Seen.TheVariants.{Text};
 
+use line_checks::ReadTo;
 use utf8::Decoded;
 
 // Past the white space in front of a line, up to what is none or is ill-formed.
@@ -74,10 +75,7 @@ fn word(s: &[u8], at: usize) -> u32
     requires { at + 4 ≤ length s.now }
     ensures { WordAt s.now at result }
 {
-    u32::from(s[at])
-        + u32::from(s[at + 1]) * 0x100
-        + u32::from(s[at + 2]) * 0x1_0000
-        + u32::from(s[at + 3]) * 0x100_0000
+    u32::from_le_bytes([s[at], s[at + 1], s[at + 2], s[at + 3]])
 }
 
 // Whether three bytes at a place are E2, 94 or 95, 80 to BF, as those of all box characters are. Not told of the last three.
@@ -119,13 +117,12 @@ fn seen_at(s: &[u8], at: usize) -> Seen
     seen_of(Decoded::Char(a as u32, 1))
 }
 
-// The rest of a line: how many code points are left without the white space at its end, the last of them, where the next line starts, and up to where the bytes are valid.
+// The rest of a line: how many code points are left without the white space at its end, the last of them, and where the line ends.
 #[derive(Clone, Copy)]
-struct Rest {
-    count: usize,
-    last: u32,
-    next: usize,
-    valid: usize,
+pub struct Rest {
+    pub count: usize,
+    pub last: u32,
+    pub end: ReadTo,
 }
 
 // 0 and no Option: it is compared with a box character alone, and 0 is none.
@@ -140,22 +137,21 @@ fn code_of(d: Decoded) -> u32
 }
 
 // The last code point is told by its place; where there is none, by the end of the bytes.
-fn rest_of(s: &[u8], count: usize, last: usize, next: usize, valid: usize) -> Rest
-    ensures { result ≡ record { count = count; last = code_of (decode (drop last s.now)); next = next; valid = valid } }
+fn rest_of(s: &[u8], count: usize, last: usize, at: usize, valid: usize) -> Rest
+    ensures { result ≡ record { count = count; last = code_of (decode (drop last s.now)); end = record { at = at; valid = valid } } }
 {
     Rest {
         count,
         last: code_of(utf8::next(s, last)),
-        next,
-        valid,
+        end: ReadTo { at, valid },
     }
 }
 
 // An ill-formed sequence ends the text.
 fn line_rest(s: &[u8], from: usize) -> Rest
     requires { from ≤ length s.now }
-    ensures rest { RestAt s.now from result.count result.last result.next }
-    ensures valid { ValidTo s.now from result.next result.valid }
+    ensures rest { RestAt s.now from result.count result.last result.end.at }
+    ensures valid { ValidTo s.now from result.end.at result.end.valid }
 {
     let mut p = from;
     let mut k: usize = 0;
@@ -186,30 +182,21 @@ fn line_rest(s: &[u8], from: usize) -> Rest
     rest_of(s, count, last, p, p)
 }
 
-// A line: where its trimmed text starts, how many code points that has, the last of them, where the next line starts, and up to where the bytes are valid.
+// A line: where its trimmed text starts, and its rest from there.
 #[derive(Clone, Copy)]
 pub struct Line {
     pub from: usize,
-    pub count: usize,
-    pub last: u32,
-    pub next: usize,
-    pub valid: usize,
+    pub rest: Rest,
 }
 
 pub fn line_at(s: &[u8], at: usize) -> Line
     requires { at ≤ length s.now }
-    ensures line { LineAt s.now at result.from result.count result.last result.next }
-    ensures valid { ValidTo s.now at result.next result.valid }
+    ensures line { LineAt s.now at result.from result.rest.count result.rest.last result.rest.end.at }
+    ensures valid { ValidTo s.now at result.rest.end.at result.rest.end.valid }
 {
     let from = skip_white(s, at);
-    let r = line_rest(s, from);
-    Line {
-        from,
-        count: r.count,
-        last: r.last,
-        next: r.next,
-        valid: r.valid,
-    }
+    let rest = line_rest(s, from);
+    Line { from, rest }
 }
 
 // The code point that a text begins with, 0 where a line feed stands or nothing.
@@ -229,26 +216,21 @@ fn first_of(d: Decoded) -> u32
     }
 }
 
-// The head of a line: the first code point of its trimmed text, 0 where it has none, where the next line starts, and up to where the bytes are valid.
+// The head of a line: the first code point of its trimmed text, 0 where it has none, and where the line ends.
 #[derive(Clone, Copy)]
 pub struct Head {
     pub first: u32,
-    pub next: usize,
-    pub valid: usize,
+    pub end: ReadTo,
 }
 
 // What tells whether a sheet begins; of the rest only its end is sought.
 pub fn line_head(s: &[u8], at: usize) -> Head
     requires { at ≤ length s.now }
-    ensures head { HeadAt s.now at result.first result.next }
-    ensures valid { ValidTo s.now at result.next result.valid }
+    ensures head { HeadAt s.now at result.first result.end.at }
+    ensures valid { ValidTo s.now at result.end.at result.end.valid }
 {
     let from = skip_white(s, at);
     let first = first_of(utf8::next(s, from));
-    let e = line_checks::line_end(s, from);
-    Head {
-        first,
-        next: e.next,
-        valid: e.valid,
-    }
+    let end = line_checks::line_end(s, from);
+    Head { first, end }
 }

@@ -1,4 +1,5 @@
 // From the layers of a drawing to its regions with their texts, and to its plane.
+// The work slices stand side by side for the reason at `canvas::draw_sheet`.
 #![tactic(auto)]
 
 ghost use Rattle.std.specs.Prelude.{◌≡◌};
@@ -12,7 +13,7 @@ use model::layer::Layer;
 use outline::Outline;
 use rects::list::Rects;
 
-// So many regions, whose texts have so many bytes.
+// So many regions, whose texts have so many bytes. No code reads `used`: by it the contract says where the texts end.
 #[derive(Clone, Copy)]
 pub struct RegionsRead {
     pub count: usize,

@@ -1,6 +1,6 @@
 -- Texts that are being gathered, one behind the other.
 use Rattle.std.specs.Prelude.{Ok, Err}
-use mathlib.Core.Path.{◌≡◌, refl, sym, ◌∙◌}
+use mathlib.Core.Path.{◌≡◌, refl, sym, ap, ◌∙◌}
 use mathlib.Core.List.{List, map}
 use Prim.Native.Nat.{ℕ, suc, ◌+◌, ◌-◌, ◌*◌, ◌≤◌, ◌<◌}
 use native.Mathlib.Numerals.{add-one}
@@ -13,12 +13,13 @@ use Rattle.lists.specs.Run.{run, build}
 use Rattle.lists.proofs.RunLaws.{build-same, map-run}
 use Rattle.lists.proofs.Tests.{by_flag}
 use Rattle.model.specs.Limits.{text_bytes}
+use Rattle.model.specs.declared.Refusal.{Refusal}
 use Rattle.model.specs.declared.Refusal.TheVariants.{OverLimit}
 use Rattle.rects.specs.Rects.{rect_at, rects_in, RectIn}
 use Rattle.rects.specs.declared.list.Rects.{Rects}
 use Rattle.texts.specs.RegionText.{text_of, packed, texts_of}
 use Rattle.cells.specs.Spans.{offset_at, length_at, text_at, texts_in}
-use Rattle.texts.specs.Spans.{SpansIn, Slices, PutAt}
+use Rattle.texts.specs.Spans.{SpansIn, Slices, WrittenTo}
 use Rattle.texts.proofs.BuildLaws.{build-next, grows}
 use Rattle.texts.proofs.SpanLaws.{spanned, offset-before, length_before, offset-here, length-here, text-before, text-here}
 use Rattle.texts.proofs.TextsLaws.{texts-all, texts_over, length_snoc}
@@ -74,56 +75,52 @@ module _ {w h : ℕ} {t : List ℕ} {rs : Rects} {d s₀ out s : List ℕ} {k at
     here : k * 2 + 2 ≤ length s
     here = omega (arith, q.slices.spans, q.spans)
 
-    module _ {o : List ℕ} {e : ℕ} (m : PutAt (text w h t rs k) out o at e) where
-      pub gathering_over : text_bytes < e → Err OverLimit ≡ texts_of (canvas w h t) (rects_in rs)
-      gathering_over u =
-          let b : text_bytes < size w h t rs rs.count = omega (arith, size_grows w h t rs (suc k) rs.count (omega arith), size-next w h t rs k, m.ends, q.sized) in
-          sym (texts_over (canvas w h t) (rects_in rs) (rw (texts_built w h t rs) b))
+    pub gathering_over : {r : Refusal} → (text_bytes < at + length (text w h t rs k)) × (r ≡ OverLimit) → Err r ≡ texts_of (canvas w h t) (rects_in rs)
+    gathering_over u =
+        let b : text_bytes < size w h t rs rs.count = omega (arith, size_grows w h t rs (suc k) rs.count (omega arith), size-next w h t rs k, u.0, q.sized) in
+        ap Err u.1 ∙ sym (texts_over (canvas w h t) (rects_in rs) (rw (texts_built w h t rs) b))
 
-      module _ (u : e ≤ text_bytes) where
-        ends : e ≡ at + length (text w h t rs k)
-        ends = omega (arith, m.ends)
+    module _ {o : List ℕ} {e : ℕ} (m : WrittenTo (text w h t rs k) out o at e) where
+      pub gathering_back : at ≤ e
+      gathering_back = omega (arith, m.ends)
 
-        pub gathering_back : at ≤ e
-        gathering_back = omega (arith, ends)
+      fits : at ≤ length out
+      fits = omega (arith, gathering_room)
 
-        fits : at ≤ length out
-        fits = omega (arith, gathering_room)
+      more-told : (j : ℕ) → j < k + 1 → text_at o (spanned s k at (e - at)) j ≡ text w h t rs j
+      more-told j v =
+          let x : List ℕ = text w h t rs k in
+          let z : e - at ≡ length x = omega (arith, m.ends) in
+          by_flag (ltb j k)
+          (λ f.
+          let y = ltb-true j k f in
+          rw (z, m.put) (text-before out s k at x fits j y (q.inside j y) ∙ q.told j y))
+          (λ f.
+          let y : j ≡ k = omega (arith, ltb-false j k f) in
+          rw (y, z, m.put) (text-here out s k at x fits here))
 
-        more-told : (j : ℕ) → j < k + 1 → text_at o (spanned s k at (e - at)) j ≡ text w h t rs j
-        more-told j v =
-            let x : List ℕ = text w h t rs k in
-            let z : e - at ≡ length x = omega (arith, ends) in
-            by_flag (ltb j k)
-            (λ f.
-            let y = ltb-true j k f in
-            rw (z, m.put u) (text-before out s k at x fits j y (q.inside j y) ∙ q.told j y))
-            (λ f.
-            let y : j ≡ k = omega (arith, ltb-false j k f) in
-            rw (y, z, m.put u) (text-here out s k at x fits here))
+      more-inside : (j : ℕ) → j < k + 1 → offset_at (spanned s k at (e - at)) j + length_at (spanned s k at (e - at)) j ≤ e
+      more-inside j v =
+          by_flag (ltb j k)
+          (λ f.
+          let y = ltb-true j k f in
+          rw (offset-before s k at (e - at) j y, length_before s k at (e - at) j y) (omega (arith, q.inside j y, gathering_back)))
+          (λ f.
+          let y : j ≡ k = omega (arith, ltb-false j k f) in
+          rw (y, offset-here s k at (e - at) here, length-here s k at (e - at) here) (omega (arith, gathering_back)))
 
-        more-inside : (j : ℕ) → j < k + 1 → offset_at (spanned s k at (e - at)) j + length_at (spanned s k at (e - at)) j ≤ e
-        more-inside j v =
-            by_flag (ltb j k)
-            (λ f.
-            let y = ltb-true j k f in
-            rw (offset-before s k at (e - at) j y, length_before s k at (e - at) j y) (omega (arith, q.inside j y, gathering_back)))
-            (λ f.
-            let y : j ≡ k = omega (arith, ltb-false j k f) in
-            rw (y, offset-here s k at (e - at) here, length-here s k at (e - at) here) (omega (arith, gathering_back)))
-
-        pub gathering_more : length o ≡ length out → Gathering w h t rs d s₀ o (spanned s k at (e - at)) (k + 1) e
-        gathering_more g =
-            record {
-              slices = q.slices;
-              along = omega arith;
-              room = u;
-              sized = rw (add-one k) (omega (arith, ends, q.sized, size-next w h t rs k));
-              told = more-told;
-              inside = more-inside;
-              long = g ∙ q.long;
-              spans = simp length-set q.spans;
-            }
+      pub gathering_more : length o ≡ length out → Gathering w h t rs d s₀ o (spanned s k at (e - at)) (k + 1) e
+      gathering_more g =
+          record {
+            slices = q.slices;
+            along = omega arith;
+            room = m.room;
+            sized = rw (add-one k) (omega (arith, m.ends, q.sized, size-next w h t rs k));
+            told = more-told;
+            inside = more-inside;
+            long = g ∙ q.long;
+            spans = simp length-set q.spans;
+          }
 
   module _ (l : rs.count ≤ k) where
     all : k ≡ rs.count

@@ -1,6 +1,6 @@
 -- A region's text that is being written, row by row.
 use mathlib.Core.Path.{◌≡◌, refl, ap, ◌∙◌, subst}
-use mathlib.Core.List.{List}
+use mathlib.Core.List.{List, ◌++◌}
 use Prim.Native.Nat.{ℕ, suc, ◌+◌, ◌-◌, ◌*◌, ◌≤◌, ◌<◌}
 use native.Mathlib.Omega.{arith}
 use lib.Dec.{ltb}
@@ -15,7 +15,7 @@ use Rattle.white_space.specs.Trim.{trim, PartIn}
 use Rattle.utf8.specs.Utf8.{encodes}
 use Rattle.texts.specs.RegionText.{joined, text_of}
 use Rattle.texts.specs.Rows.{next}
-use Rattle.texts.specs.Spans.{PutAt}
+use Rattle.texts.specs.Spans.{WrittenTo}
 use Rattle.texts.proofs.BuildLaws.{build-next, grows}
 use Rattle.texts.proofs.JoinedLaws.{begun, rows_bytes, bytes_snoc, bytes_grow, begun_test}
 use Rattle.texts.proofs.PutAtLaws.{written_none, written_past, written_then}
@@ -37,8 +37,7 @@ pub record Joining (w h : ℕ) (s : List ℕ) (r : Rect) (b : ℕ) (d : List ℕ
   pub low : r.top + 1 ≤ y
   pub last : b ≡ r.bottom - 1
   pub along : y ≤ b
-  pub room : at ≤ text_bytes
-  pub done : PutAt (rows_bytes (rows_to (canvas w h s) r (y - (r.top + 1)))) d out start at
+  pub done : WrittenTo (rows_bytes (rows_to (canvas w h s) r (y - (r.top + 1)))) d out start at
   pub long : length out ≡ length d
 
 -- the same of an equal rect
@@ -50,7 +49,7 @@ pub joining_start : {w h : ℕ} {s : List ℕ} {r : Rect} {d : List ℕ} {start 
 unfolding run texts encodes
 joining_start {w} {h} {s} {r} {d} {start} n i k g =
     let z : r.top + 1 - (r.top + 1) ≡ 0 = omega arith in
-    record { size = n; rect = i; space = g; low = omega arith; last = refl; along = omega (arith, i.tall); room = k; done = rw z (written_none d start k); long = refl }
+    record { size = n; rect = i; space = g; low = omega arith; last = refl; along = omega (arith, i.tall); done = rw z (written_none d start k); long = refl }
 
 module _ {w h : ℕ} {s : List ℕ} {r : Rect} {b : ℕ} {d : List ℕ} {start : ℕ} {out : List ℕ} {y at : ℕ} (q : Joining w h s r b d start out y at) where
   module _ (l : y < b) where
@@ -70,46 +69,48 @@ module _ {w h : ℕ} {s : List ℕ} {r : Rect} {b : ℕ} {d : List ℕ} {start :
       pub joining_room : (y * w + (r.left + 1) ≤ a) × (a ≤ e) × (e ≤ y * w + (r.right - 1)) × (y * w + (r.right - 1) ≤ length s) × (text_bytes + 4 ≤ length out)
       joining_room = (t.low, t.ordered, t.high, joining_part.1, omega (arith, q.long, q.space))
 
-      module _ {o : List ℕ} {n : ℕ} (m : PutAt (encodes (next (ltb start at) (take (e - a) (drop a s)))) out o at n) where
-        -- so many rows stand above it
-        abbrev done_rows : ℕ
-        done_rows = y - (r.top + 1)
+      -- so many rows stand above it
+      abbrev done_rows : ℕ
+      done_rows = y - (r.top + 1)
 
-        trimmed : take (e - a) (drop a s) ≡ trim (row_of (canvas w h s) r done_rows)
-        trimmed =
-            let z : y * w + (r.right - 1) - (y * w + (r.left + 1)) ≡ r.right - 1 - (r.left + 1) = omega arith in
-            let v : r.top + 1 + done_rows ≡ y = omega (arith, q.low) in
-            t.text ∙ rw (z, v) (ap trim (row_part w h s (r.left + 1) (r.right - 1) y columns row q.size))
+      trimmed : take (e - a) (drop a s) ≡ trim (row_of (canvas w h s) r done_rows)
+      trimmed =
+          let z : y * w + (r.right - 1) - (y * w + (r.left + 1)) ≡ r.right - 1 - (r.left + 1) = omega arith in
+          let v : r.top + 1 + done_rows ≡ y = omega (arith, q.low) in
+          t.text ∙ rw (z, v) (ap trim (row_part w h s (r.left + 1) (r.right - 1) y columns row q.size))
 
-        joined-row : PutAt (rows_bytes (rows_to (canvas w h s) r (suc done_rows))) d o start n
-        joined-row =
-            let rs : List (List ℕ) = rows_to (canvas w h s) r done_rows in
-            let g : ltb start at ≡ begun (joined (texts rs)) = begun_test (joined (texts rs)) start at (omega (arith, q.done.ends, q.room)) in
-            rw (build-next (row_of (canvas w h s) r) done_rows, bytes_snoc rs (row_of (canvas w h s) r done_rows))
-            (written_then q.done (omega (arith, q.space)) q.room (rw (g, trimmed) at m))
+      -- what is written of it
+      abbrev row_bytes : List ℕ
+      row_bytes = encodes (next (ltb start at) (take (e - a) (drop a s)))
 
-        pub joining_past : {o' : List ℕ} → text_bytes < n → PutAt (text_of (canvas w h s) r) d o' start (text_bytes + 1)
-        unfolding text_of
-        joining_past k =
-            written_past joined-row k
-            (grows (row_of (canvas w h s) r) (λ rs. length (rows_bytes rs)) bytes_grow (suc done_rows) (r.bottom - 1 - (r.top + 1)) (omega (arith, q.low, q.last)))
+      rows_snoc : rows_bytes (rows_to (canvas w h s) r (suc done_rows)) ≡ rows_bytes (rows_to (canvas w h s) r done_rows) ++ row_bytes
+      rows_snoc =
+          let rs : List (List ℕ) = rows_to (canvas w h s) r done_rows in
+          let g : ltb start at ≡ begun (joined (texts rs)) = begun_test (joined (texts rs)) start at q.done.ends in
+          rw (build-next (row_of (canvas w h s) r) done_rows, bytes_snoc rs (row_of (canvas w h s) r done_rows), g, trimmed)
 
-        pub joining_more : n ≤ text_bytes → length o ≡ length out → Joining w h s r b d start o (y + 1) n
-        joining_more k c =
-            let z : suc done_rows ≡ y + 1 - (r.top + 1) = omega (arith, q.low) in
-            record {
-              size = q.size;
-              rect = q.rect;
-              space = q.space;
-              low = omega (arith, q.low);
-              last = q.last;
-              along = omega arith;
-              room = k;
-              done = rw z at joined-row;
-              long = c ∙ q.long;
-            }
+      pub joining_past : text_bytes < at + length row_bytes → text_bytes < start + length (text_of (canvas w h s) r)
+      unfolding text_of
+      joining_past m =
+          let v = written_past q.done row_bytes m in
+          let g = grows (row_of (canvas w h s) r) (λ rs. length (rows_bytes rs)) bytes_grow (suc done_rows) (r.bottom - 1 - (r.top + 1)) (omega (arith, q.low, q.last)) in
+          omega (arith, v, g, ap length rows_snoc)
 
-  pub joining_end : b ≤ y → PutAt (text_of (canvas w h s) r) d out start at
+      pub joining_more : {o : List ℕ} {n : ℕ} → WrittenTo row_bytes out o at n → length o ≡ length out → Joining w h s r b d start o (y + 1) n
+      joining_more m c =
+          let z : suc done_rows ≡ y + 1 - (r.top + 1) = omega (arith, q.low) in
+          record {
+            size = q.size;
+            rect = q.rect;
+            space = q.space;
+            low = omega (arith, q.low);
+            last = q.last;
+            along = omega arith;
+            done = rw (← z, rows_snoc) (written_then q.done (omega (arith, q.space)) m);
+            long = c ∙ q.long;
+          }
+
+  pub joining_end : b ≤ y → WrittenTo (text_of (canvas w h s) r) d out start at
   unfolding text_of
   joining_end l =
       let z : y ≡ r.bottom - 1 = omega (arith, q.last, q.along) in

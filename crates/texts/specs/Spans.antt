@@ -1,8 +1,9 @@
 -- What gathering texts answers, with the slices that hold them.
-use Rattle.std.specs.Prelude.{List, ◌≡◌, ℕ, ◌+◌, ◌*◌, ◌≤◌, ◌<◌, min, length, Ok, Err}
+use Rattle.std.specs.Prelude.{List, ◌≡◌, ℕ, ◌+◌, ◌*◌, ◌≤◌, ◌<◌, length, Ok, Err}
 use Rattle.lists.specs.Put.{put}
 use Rattle.model.specs.Limits.{text_bytes}
 use Rattle.model.specs.Refusals.{Reading}
+use Rattle.model.specs.declared.Refusal.TheVariants.{OverLimit}
 use Rattle.cells.specs.Spans.{offset_at, length_at, texts_in}
 use Rattle.rects.specs.Rects.{rect_at, RectIn}
 use Rattle.rects.specs.declared.list.Rects.{Rects}
@@ -25,7 +26,13 @@ pub record Slices (w h : ℕ) (rs : Rects) (b s : List ℕ) : Type 0 where
   pub bytes : text_bytes + 4 ≤ length b
   pub spans : rs.count * 2 ≤ length s
 
--- v is written into d from `at` on, and r is the place behind it; past 61,440 bytes r is one more, whatever was written
-pub record PutAt (v d o : List ℕ) (at r : ℕ) : Type 0 where
-  pub ends : r ≡ min (text_bytes + 1) (at + length v)
-  pub put : r ≤ text_bytes → o ≡ put d at v
+-- v is written into d from `at` on, and e is the place behind it
+pub record WrittenTo (v d o : List ℕ) (at e : ℕ) : Type 0 where
+  pub ends : e ≡ at + length v
+  pub room : e ≤ text_bytes
+  pub put : o ≡ put d at v
+
+-- an answer's place behind v, which is written; a refusal past 61,440 bytes, whatever was written
+abbrev pub PutAt : List ℕ → List ℕ → List ℕ → ℕ → Reading ℕ → Type 0
+PutAt v d o at (Ok e) = WrittenTo v d o at e
+PutAt v d o at (Err r) = (text_bytes < at + length v) × (r ≡ OverLimit)

@@ -1,5 +1,6 @@
 // The texts of regions: the rows between a frame's sides, trimmed, joined with a blank, as UTF-8.
-// A slice with a place or a count: it is lent by the caller, in C too, as `record` says.
+// `bytes` with a place, and `spans`: work slices, lent by the caller, in C too. No vector and no writer over them, since
+// `encoding::put_code` takes a slice and a place.
 #![tactic(auto)]
 
 ghost use Rattle.std.specs.Prelude.{◌≡◌, ◌+◌, ◌-◌, ◌≤◌, ◌<◌, ltb, length, take, drop};
@@ -16,51 +17,47 @@ use model::layer::Layer;
 use model::limits::TEXT_BYTES;
 use rects::list::Rects;
 
-// The characters from one place up to another, into the bytes from `at` on.
-fn put_part(text: &[u32], from: usize, to: usize, bytes: &mut [u8], at: usize) -> usize
-    requires { (from ≤ to) × (to ≤ length text.now) × (at ≤ text_bytes) × (text_bytes + 4 ≤ length bytes.old) }
-    ensures { PutAt (encodes (take (to - from) (drop from text.now))) bytes.old bytes.new at result }
+// Characters into the bytes from `at` on.
+fn put_part(part: &[u32], bytes: &mut [u8], at: usize) -> Result<usize, Refusal>
+    requires { (at ≤ text_bytes) × (text_bytes + 4 ≤ length bytes.old) }
+    ensures { PutAt (encodes part.now) bytes.old bytes.new at result }
 {
     let mut p = at;
-    for i in from..to {
+    for i in 0..part.len() {
+        p = encoding::put_code(bytes, p, part[i]);
         if TEXT_BYTES < p {
-            return TEXT_BYTES + 1;
+            return Err(Refusal::OverLimit);
         }
-        p = encoding::put_code(bytes, p, text[i]);
     }
-    if TEXT_BYTES < p {
-        return TEXT_BYTES + 1;
-    }
-    p
+    Ok(p)
 }
 
 // The same behind a blank where the region's text, which begins at `start`, has begun; nothing for no characters.
-fn put_next(
-    text: &[u32],
-    from: usize,
-    to: usize,
-    bytes: &mut [u8],
-    start: usize,
-    at: usize,
-) -> usize
-    requires { (from ≤ to) × (to ≤ length text.now) × (at ≤ text_bytes) × (text_bytes + 4 ≤ length bytes.old) }
-    ensures { PutAt (encodes (next (ltb start at) (take (to - from) (drop from text.now)))) bytes.old bytes.new at result }
+fn put_next(part: &[u32], bytes: &mut [u8], start: usize, at: usize) -> Result<usize, Refusal>
+    requires { (at ≤ text_bytes) × (text_bytes + 4 ≤ length bytes.old) }
+    ensures { PutAt (encodes (next (ltb start at) part.now)) bytes.old bytes.new at result }
 {
-    if to <= from {
-        return at;
+    if part.is_empty() {
+        return Ok(at);
     }
     if start < at {
-        bytes[at] = 32;
         if TEXT_BYTES <= at {
-            return TEXT_BYTES + 1;
+            return Err(Refusal::OverLimit);
         }
-        return put_part(text, from, to, bytes, at + 1);
+        bytes[at] = 32;
+        return put_part(part, bytes, at + 1);
     }
-    put_part(text, from, to, bytes, at)
+    put_part(part, bytes, at)
 }
 
 // The text of rect k, into the bytes from `start` on. Each row's part is read where it lies.
-fn put_text(text: Layer, rects: Rects, k: usize, bytes: &mut [u8], start: usize) -> usize
+fn put_text(
+    text: Layer,
+    rects: Rects,
+    k: usize,
+    bytes: &mut [u8],
+    start: usize,
+) -> Result<usize, Refusal>
     requires { (k < rects.count) × RectIn text.width text.height (rect_at rects.numbers.now k) × (start ≤ text_bytes) × (text_bytes + 4 ≤ length bytes.old) }
     ensures { PutAt (text_of (picture_of text.entry) (rect_at rects.entry.numbers.now k)) bytes.old bytes.new start result }
 {
@@ -73,12 +70,9 @@ fn put_text(text: Layer, rects: Rects, k: usize, bytes: &mut [u8], start: usize)
     let mut at = start;
     for y in r.top + 1..bottom {
         let part = white_space::trim_codes_part(codes, y * w + from, y * w + to);
-        at = put_next(codes, part.from, part.to, bytes, start, at);
-        if TEXT_BYTES < at {
-            return TEXT_BYTES + 1;
-        }
+        at = put_next(&codes[part.from..part.to], bytes, start, at)?;
     }
-    at
+    Ok(at)
 }
 
 // The texts of rects, one behind the other, and where each stands.
@@ -94,10 +88,7 @@ pub fn gather(
 {
     let mut at = 0;
     for k in 0..rects.count {
-        let e = put_text(text, rects, k, bytes, at);
-        if TEXT_BYTES < e {
-            return Err(Refusal::OverLimit);
-        }
+        let e = put_text(text, rects, k, bytes, at)?;
         spans[k * 2] = at as u32;
         spans[k * 2 + 1] = (e - at) as u32;
         at = e;

@@ -6,4 +6,4 @@ use Rattle.scan.proofs.put_row.Goals as goal
 pub returns : goal.returns
 returns c =
     let a = c.args in
-    let t = codes_at a.s.now a.from a.count in record { text = row_written a.text.now a.base t a.width a.count c.requires.0 c.requires.1 c.requires.2 c.put_codes.ensures c.put_same.ensures; body = blanks_written a.body.now a.base t a.width a.count c.requires.0 c.requires.1 c.requires.3 c.put_same-2.ensures c.put_same-3.ensures }
+    let t = codes_at a.s.now a.row.from a.row.count in record { text = row_written a.text.now a.base t a.width a.row.count c.requires.0 c.requires.1 c.requires.2 c.put_codes.ensures c.put_same.ensures; body = blanks_written a.body.now a.base t a.width a.row.count c.requires.0 c.requires.1 c.requires.3 c.put_same-2.ensures c.put_same-3.ensures }

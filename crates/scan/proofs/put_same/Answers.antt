@@ -1,12 +1,17 @@
 -- `scan::put_same` meets its contract.
-use Rattle.scan.proofs.RowPutting.{filling_start, filling_more, filling_done}
+use mathlib.Core.Path.{◌≡◌, ◌∙◌}
+use Prim.Native.Nat.{◌+◌, ◌-◌}
+use native.Mathlib.Omega.{arith}
+use lib.ListN.{length, take, drop, length-drop, length-replicate}
+use lib.Seq.{length-take-le}
+use Rattle.lists.proofs.Copying.{copied}
 use Rattle.scan.proofs.put_same.Goals as goal
 
-pub loop-i-init : goal.loop-i-init
-loop-i-init c = filling_start _ _ _ _
-
-pub loop-i-preserved : goal.loop-i-preserved
-loop-i-preserved c = filling_more c.loop-i.invariant c.loop-i-test.true c.requires
-
 pub returns : goal.returns
-returns c = filling_done c.loop-i.invariant c.loop-i-test.false
+returns c =
+    let a = c.args in
+    let m : a.base + a.n - a.base ≡ a.n = omega arith in
+    let l : length (take (a.base + a.n - a.base) (drop a.base a.out.now)) ≡ a.n = length-take-le (a.base + a.n - a.base) (drop a.base a.out.now) (omega (arith, length-drop a.base a.out.now, c.requires)) ∙ m in
+    let f = rw l at c.fill.ensures.after (λ y e. e) in
+    let p = copied a.out.now a.base f in
+    rw (length-replicate a.n a.code) at p

@@ -3,7 +3,7 @@ use mathlib.Core.Path.{◌≡◌, refl, ◌∙◌}
 use mathlib.Core.List.{◌∷◌}
 use Prim.Native.Nat.{◌+◌}
 use native.Mathlib.Omega.{arith}
-use lib.ListN.{drop}
+use lib.ListN.{length, drop}
 use Rattle.lists.proofs.RunLaws.{length_run, drop-build, drop_build_end}
 use Rattle.sheet_rows.specs.Found.{row_in, rows_in}
 use Rattle.scan.specs.Rows.{blank}
@@ -14,15 +14,15 @@ use Rattle.scan.proofs.write_rows.Goals.{In-loop-r}
 
 pub loop-r-init : goal.loop-r-init
 loop-r-init c =
-    let n = length_run (row_in c.args.s.now c.args.rows.now) 0 c.args.n in (
-      writing_start (λ t. t) (λ t. refl) _ _ _ c.requires.2 (rw n c.requires.3),
-      writing_start blank blank-length _ _ _ c.requires.2 (rw n c.requires.4),
+    let n = length_run (row_in c.args.s.now c.args.rows.now) 0 (length c.args.rows.now) in (
+      writing_start (λ t. t) (λ t. refl) _ _ _ c.requires.1 (rw n c.requires.2),
+      writing_start blank blank-length _ _ _ c.requires.1 (rw n c.requires.3),
     )
 
 -- the row of a turn, and those behind it
 row : (c : In-loop-r)
-    → drop c.loop-r.r (rows_in c.args.s.now c.args.rows.now c.args.n) ≡ row_in c.args.s.now c.args.rows.now c.loop-r.r ∷ drop (c.loop-r.r + 1) (rows_in c.args.s.now c.args.rows.now c.args.n)
-row c = let a = c.args in drop-build a.n (row_in a.s.now a.rows.now) c.loop-r.r c.loop-r-test.true
+    → drop c.loop-r.r (rows_in c.args.s.now c.args.rows.now (length c.args.rows.now)) ≡ row_in c.args.s.now c.args.rows.now c.loop-r.r ∷ drop (c.loop-r.r + 1) (rows_in c.args.s.now c.args.rows.now (length c.args.rows.now))
+row c = let a = c.args in drop-build (length a.rows.now) (row_in a.s.now a.rows.now) c.loop-r.r c.loop-r-test.true
 
 pub put_row-requires : goal.put_row-requires
 put_row-requires c =
@@ -50,5 +50,5 @@ pub returns : goal.returns
 returns c =
     let i = c.loop-r.invariant in
     let a = c.args in
-    let e = drop_build_end a.n (row_in a.s.now a.rows.now) c.loop-r.r c.loop-r-test.false in
+    let e = drop_build_end (length a.rows.now) (row_in a.s.now a.rows.now) c.loop-r.r c.loop-r-test.false in
     record { text = writing_end i.0 e ∙ text-layer _ _ _; body = writing_end i.1 e }

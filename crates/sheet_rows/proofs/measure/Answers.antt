@@ -2,45 +2,55 @@
 use mathlib.Core.Path.{refl}
 use native.Mathlib.Omega.{arith}
 use Rattle.sheet_rows.proofs.Measuring.{measuring_start, measuring_none, measuring_more, measuring_last, measuring_end, valid_more}
-use Rattle.sheet_rows.proofs.Keeping.{keeping_start, keeping_none, keeping_more, keeping_last, keeping_end}
+use Rattle.sheet_rows.proofs.Keeping.{keeping_start, keeping_none, keeping_long, keeping_more, keeping_last, keeping_end}
 use Rattle.sheet_rows.proofs.measure.Goals as goal
 
-pub loop-p-init : goal.loop-p-init
-loop-p-init c = (measuring_start _ _ c.requires.0, (keeping_start _ _ _, record { same = refl; level = c.requires.1 }))
+pub loop-end-init : goal.loop-end-init
+loop-end-init c =
+    (measuring_start _ _ c.requires.0, (rw c.new-kept.ensures (keeping_start _ _), record { same = refl; level = c.requires.1 }))
 
 pub returns-then-last-eq-LIGHT_UP_AND_LEFT : goal.returns-then-last-eq-LIGHT_UP_AND_LEFT
 returns-then-last-eq-LIGHT_UP_AND_LEFT c =
-    let i = c.loop-p.invariant in
-    let h = c.loop-p-test.true in
-    let l = c.line_at-l.ensures in record { measured = measuring_last i.0 l.line h c.max-columns.ensures c.if-count-gt0.true c.if-last-eq-LIGHT_UP_AND_LEFT.true; kept = keeping_last i.1.0 l.line c.if-count-gt0.true c.requires.2 c.keep_row.ensures c.keep_row.auto.rows c.if-last-eq-LIGHT_UP_AND_LEFT.true; valid = (valid_more i.1.1 h l.valid).same }
+    let i = c.loop-end.invariant in
+    let h = c.loop-end-test.true in
+    let z = c.if-count-gt0.true in
+    let l = c.line_at-l.ensures in
+    let w = c.keep_row.ensures in
+    record {
+      measured = measuring_last i.0 l.line h c.max-columns.ensures z c.if-last-eq-LIGHT_UP_AND_LEFT.true;
+      all = keeping_long i.1.0 l.line z w;
+      kept = keeping_last i.1.0 l.line z w c.if-last-eq-LIGHT_UP_AND_LEFT.true;
+      valid = (valid_more i.1.1 h l.valid).same;
+    }
 
-pub loop-p-smaller-else-last-eq-LIGHT_UP_AND_LEFT : goal.loop-p-smaller-else-last-eq-LIGHT_UP_AND_LEFT
-loop-p-smaller-else-last-eq-LIGHT_UP_AND_LEFT c =
-    omega (arith, c.line_at-l.ensures.line.further c.loop-p-test.true)
+pub loop-end-smaller-else-last-eq-LIGHT_UP_AND_LEFT : goal.loop-end-smaller-else-last-eq-LIGHT_UP_AND_LEFT
+loop-end-smaller-else-last-eq-LIGHT_UP_AND_LEFT c =
+    omega (arith, c.line_at-l.ensures.line.further c.loop-end-test.true)
 
-pub loop-p-preserved-else-last-eq-LIGHT_UP_AND_LEFT : goal.loop-p-preserved-else-last-eq-LIGHT_UP_AND_LEFT
-loop-p-preserved-else-last-eq-LIGHT_UP_AND_LEFT c =
-    let i = c.loop-p.invariant in
-    let h = c.loop-p-test.true in
-    let l = c.line_at-l.ensures in (
-      measuring_more i.0 l.line h c.max-columns.ensures c.if-count-gt0.true c.if-last-eq-LIGHT_UP_AND_LEFT.false,
-      (
-        keeping_more i.1.0 l.line c.if-count-gt0.true c.requires.2 c.keep_row.ensures c.keep_row.auto.rows c.if-last-eq-LIGHT_UP_AND_LEFT.false,
-        valid_more i.1.1 h l.valid,
-      ),
+pub loop-end-preserved-else-last-eq-LIGHT_UP_AND_LEFT : goal.loop-end-preserved-else-last-eq-LIGHT_UP_AND_LEFT
+loop-end-preserved-else-last-eq-LIGHT_UP_AND_LEFT c =
+    let i = c.loop-end.invariant in
+    let h = c.loop-end-test.true in
+    let z = c.if-count-gt0.true in
+    let l = c.line_at-l.ensures in
+    let q = c.if-last-eq-LIGHT_UP_AND_LEFT.false in (
+      measuring_more i.0 l.line h c.max-columns.ensures z q,
+      (keeping_more i.1.0 l.line z c.keep_row.ensures q, valid_more i.1.1 h l.valid),
     )
 
-pub loop-p-smaller : goal.loop-p-smaller
-loop-p-smaller c = omega (arith, c.line_at-l.ensures.line.further c.loop-p-test.true)
+pub loop-end-smaller : goal.loop-end-smaller
+loop-end-smaller c = omega (arith, c.line_at-l.ensures.line.further c.loop-end-test.true)
 
-pub loop-p-preserved : goal.loop-p-preserved
-loop-p-preserved c =
-    let i = c.loop-p.invariant in
-    let h = c.loop-p-test.true in
+pub loop-end-preserved : goal.loop-end-preserved
+loop-end-preserved c =
+    let i = c.loop-end.invariant in
+    let h = c.loop-end-test.true in
+    let z = c.if-count-gt0.false in
     let l = c.line_at-l.ensures in
-    (measuring_none i.0 l.line h c.if-count-gt0.false, (keeping_none i.1.0 l.line c.if-count-gt0.false, valid_more i.1.1 h l.valid))
+    (measuring_none i.0 l.line h z, (keeping_none i.1.0 l.line z, valid_more i.1.1 h l.valid))
 
 pub returns : goal.returns
 returns c =
-    let i = c.loop-p.invariant in
-    record { measured = measuring_end i.0 c.loop-p-test.false; kept = keeping_end i.1.0 c.loop-p-test.false; valid = i.1.1.same }
+    let i = c.loop-end.invariant in
+    let h = c.loop-end-test.false in
+    record { measured = measuring_end i.0 h; all = i.1.0.long; kept = keeping_end i.1.0 h; valid = i.1.1.same }

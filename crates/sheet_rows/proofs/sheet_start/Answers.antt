@@ -3,23 +3,23 @@ use native.Mathlib.Omega.{arith}
 use Rattle.sheet_rows.proofs.Measuring.{seeking_start, seeking_more, seeking_found, seeking_end, valid_start, valid_more}
 use Rattle.sheet_rows.proofs.sheet_start.Goals as goal
 
-pub loop-at-init : goal.loop-at-init
-loop-at-init c = (seeking_start _ _ c.requires, valid_start _ _)
+pub loop-start-init : goal.loop-start-init
+loop-start-init c = (seeking_start _ _ c.requires, valid_start _ _)
 
 pub returns-then-l-eq-LIGHT_DOWN_AND_RIGHT : goal.returns-then-l-eq-LIGHT_DOWN_AND_RIGHT
 returns-then-l-eq-LIGHT_DOWN_AND_RIGHT c =
-    let i = c.loop-at.invariant in
+    let i = c.loop-start.invariant in
     record { start = seeking_found i.0 c.line_head-l.ensures.head c.if-l-eq-LIGHT_DOWN_AND_RIGHT.true; valid = i.1 }
 
-pub loop-at-smaller : goal.loop-at-smaller
-loop-at-smaller c =
-    omega (arith, c.line_head-l.ensures.head.further c.loop-at-test.true)
+pub loop-start-smaller : goal.loop-start-smaller
+loop-start-smaller c =
+    omega (arith, c.line_head-l.ensures.head.further c.loop-start-test.true)
 
-pub loop-at-preserved : goal.loop-at-preserved
-loop-at-preserved c =
-    let i = c.loop-at.invariant in
+pub loop-start-preserved : goal.loop-start-preserved
+loop-start-preserved c =
+    let i = c.loop-start.invariant in
     let l = c.line_head-l.ensures in
-    (seeking_more i.0 l.head c.if-l-eq-LIGHT_DOWN_AND_RIGHT.false, valid_more i.1 c.loop-at-test.true l.valid)
+    (seeking_more i.0 l.head c.if-l-eq-LIGHT_DOWN_AND_RIGHT.false, valid_more i.1 c.loop-start-test.true l.valid)
 
 pub returns : goal.returns
-returns c = let i = c.loop-at.invariant in record { start = seeking_end i.0 c.loop-at-test.false; valid = i.1 }
+returns c = let i = c.loop-start.invariant in record { start = seeking_end i.0 c.loop-start-test.false; valid = i.1 }

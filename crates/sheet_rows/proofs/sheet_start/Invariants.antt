@@ -4,8 +4,8 @@ use Rattle.white_space.specs.Lines.{ValidTo}
 use Rattle.sheet_rows.proofs.Measuring.{Seeking}
 use Rattle.sheet_rows.proofs.sheet_start.Given as goal
 
-abbrev pub invariant-loop-at : goal.invariant-loop-at
-invariant-loop-at l = Seeking l.s l.from l.at × ValidTo l.s l.from l.at l.valid
+abbrev pub invariant-loop-start : goal.invariant-loop-start
+invariant-loop-start l = Seeking l.s l.from l.start.at × ValidTo l.s l.from l.start.at l.start.valid
 
-abbrev pub decreases-loop-at : goal.decreases-loop-at
-decreases-loop-at l = length l.s - l.at
+abbrev pub decreases-loop-start : goal.decreases-loop-start
+decreases-loop-start l = length l.s - l.start.at

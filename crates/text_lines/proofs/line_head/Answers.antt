@@ -8,5 +8,5 @@ use Rattle.text_lines.proofs.line_head.Goals as goal
 pub returns : goal.returns
 returns c =
     let k = c.skip_white-from.ensures in
-    let e = c.line_end-e.ensures in
+    let e = c.line_end-end.ensures in
     record { head = head_of_lem k.0 k.1 k.2 e.next (c.first_of-first.ensures ∙ ap head_of c.next.ensures ∙ head_first _); valid = valid_of k.3 e.valid }

@@ -2,4 +2,4 @@ use Rattle.texts.proofs.PartPutting.{Encoding}
 use Rattle.texts.proofs.put_part.Given as goal
 
 abbrev pub invariant-loop-i : goal.invariant-loop-i
-invariant-loop-i l = Encoding l.text l.from l.to l.initial.bytes l.at l.bytes l.i l.p
+invariant-loop-i l = Encoding l.part l.initial.bytes l.at l.bytes l.i l.p

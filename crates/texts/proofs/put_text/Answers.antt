@@ -1,12 +1,13 @@
 -- `texts::put_text` meets its contract.
+use Rattle.std.proofs.lemmas.Result.{err_from_is_err_and}
 use mathlib.Core.Path.{sym, subst}
-use Prim.Native.Nat.{◌+◌, ◌-◌}
+use Prim.Native.Nat.{◌+◌, ◌-◌, ◌<◌}
+use lib.ListN.{length}
 use Rattle.model.specs.Layers.{picture_of}
 use Rattle.model.specs.Limits.{text_bytes}
 use Rattle.model.specs.declared.Rect.{Rect}
 use Rattle.rects.specs.Rects.{RectIn}
 use Rattle.texts.specs.RegionText.{text_of}
-use Rattle.texts.specs.Spans.{PutAt}
 use Rattle.texts.proofs.TextPutting.{Joining, joining_of, joining_start, joining_part, joining_room, joining_past, joining_more, joining_end}
 use native.Mathlib.Omega.{arith}
 use Rattle.texts.proofs.put_text.Goals as goal
@@ -48,22 +49,28 @@ overflow_add-y-in-loop-y c = omega (arith, joining_part (joining (goal.at.overfl
 pub trim_codes_part-part-requires : goal.trim_codes_part-part-requires
 trim_codes_part-part-requires c = joining_part (joining (goal.at.trim_codes_part-part-requires c).At-loop-y) c.loop-y-test.true
 
-pub put_next-at-requires : goal.put_next-at-requires
-put_next-at-requires c =
-    let i = joining (goal.at.put_next-at-requires c).At-loop-y in
+pub put_next-requires : goal.put_next-requires
+put_next-requires c =
+    let i = joining (goal.at.put_next-requires c).At-loop-y in
     let j = joining_room i c.loop-y-test.true c.trim_codes_part-part.ensures in
-    (omega (arith, j), omega (arith, j), i.room, j.4)
+    (i.done.room, j.4)
 
-pub returns-then-at-gt-TEXT_BYTES : goal.returns-then-at-gt-TEXT_BYTES
-returns-then-at-gt-TEXT_BYTES c =
+pub slice_bounds-put_next-end : goal.slice_bounds-put_next-end
+slice_bounds-put_next-end c =
+    omega (arith, joining_room (joining (goal.at.slice_bounds-put_next-end c).At-loop-y) c.loop-y-test.true c.trim_codes_part-part.ensures)
+
+pub returns-in_err-at : goal.returns-in_err-at
+returns-in_err-at c =
+    let p = err_from_is_err_and c.from_residual.result c.from_residual.ensures.1 in
     let a = c.args in
-    subst (λ (q : Rect). PutAt (text_of (picture_of a.text) q) a.bytes.now c.put_next-at.new.bytes a.start (text_bytes + 1)) c.at-r.ensures
-    (joining_past (joining (goal.at.returns-then-at-gt-TEXT_BYTES c).At-loop-y) c.loop-y-test.true c.trim_codes_part-part.ensures c.put_next-at.ensures c.if-at-gt-TEXT_BYTES.true)
+    let i = joining (goal.at.returns-in_err-at c).At-loop-y in
+    let m = joining_past i c.loop-y-test.true c.trim_codes_part-part.ensures c.in_err-at.ensures.0 in
+    rw (p.1, p.2) (subst (λ (q : Rect). text_bytes < a.start + length (text_of (picture_of a.text) q)) c.at-r.ensures m, c.in_err-at.ensures.1)
 
 pub loop-y-preserved : goal.loop-y-preserved
 loop-y-preserved c =
     joining_of c.at-r.ensures
-    (joining_more (joining (goal.at.loop-y-preserved c).At-loop-y) c.loop-y-test.true c.trim_codes_part-part.ensures c.put_next-at.ensures c.if-at-gt-TEXT_BYTES.false c.put_next-at.auto.bytes)
+    (joining_more (joining (goal.at.loop-y-preserved c).At-loop-y) c.loop-y-test.true c.trim_codes_part-part.ensures c.in_ok-at.ensures c.put_next.auto.bytes)
 
 pub returns : goal.returns
 returns c = joining_end c.loop-y.invariant c.loop-y-test.false
