@@ -1,5 +1,3 @@
-use Prim.Native.Nat.{◌-◌}
-use lib.ListN.{length}
 use Rattle.emphasis.proofs.Commas.{Seeking}
 use Rattle.emphasis.proofs.part_end.Given as goal
 
