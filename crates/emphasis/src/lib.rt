@@ -77,12 +77,11 @@ fn part_end(s: &[u8], at: usize) -> usize
     requires { at ≤ length s.now }
     ensures { PartEnd s.now at result }
 {
-    for i in at..s.len() {
-        if s[i] == 0x2C {
-            return i;
-        }
-    }
-    s.len()
+    let behind = &s[at..];
+    at + behind
+        .iter()
+        .position(|c| *c == b',')
+        .unwrap_or(behind.len())
 }
 
 // The first part in emphasis: the part, and its bare text from a up to b.
