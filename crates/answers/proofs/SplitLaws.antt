@@ -7,7 +7,7 @@ use native.Mathlib.Omega.{arith}
 use lib.ListN.{length, take, drop, length-take, length-drop}
 use Rattle.model.specs.Refusals.{Reading}
 use Rattle.utils.specs.Split.{answered, Places}
-use Rattle.utils.specs.declared.Rewritten.{Rewritten}
+use Rattle.values.specs.declared.Rewritten.{Rewritten}
 use Rattle.print.specs.Lines.{values_line}
 use Rattle.answers.specs.SplitLines.{printed}
 

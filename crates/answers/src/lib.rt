@@ -19,7 +19,7 @@ use cells::plane::Plane;
 use lent::Lent;
 use model::Refusal;
 use plane::Stated;
-use utils::Rewritten;
+use values::Rewritten;
 
 // What the split answered.
 fn put_split<const N: usize>(

@@ -21,6 +21,8 @@ pub fn validate_from(s: &[u8], from: usize) -> Result<(), usize>
     Ok(())
 }
 
+// Not `core::str::from_utf8`: it tells what is valid in words of its own (`IsUtf8`, `utf8_valid_len`) and not by table 3-7, and
+// `validate_from`, which goes on from a place, would still be needed beside it.
 pub fn validate(s: &[u8]) -> Result<(), usize>
     ensures { result ≡ checked s.now }
 {

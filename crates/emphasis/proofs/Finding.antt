@@ -13,7 +13,7 @@ use Rattle.white_space.specs.Trim.{trim_start_utf8, trim_utf8, PartIn}
 use Rattle.emphasis.specs.Commas.{parts}
 use Rattle.emphasis.specs.Emphasis.{Choice, plain, marked, marks, placed, or_else, starts_with, ends_with, strip_start, strip, emphasised, first_marked, choice_of}
 use Rattle.emphasis.specs.Found.{parts_behind, PartEnd, Bare, Emphasised}
-use Rattle.emphasis.specs.declared.Mark.{Mark}
+use Rattle.white_space.specs.declared.Part.{Part}
 use Rattle.emphasis.proofs.Stripping.{strip-length}
 
 -- the part of s from a up to e
@@ -34,7 +34,7 @@ pub mark-none : (p : List ℕ) → emphasised [] p ≡ plain
 unfolding emphasised
 mark-none p = refl
 
-pub mark-by : {p : List ℕ} {c d : Choice} {m : Mark} → d ≡ c → Bare p c m → Bare p d m
+pub mark-by : {p : List ℕ} {c d : Choice} {m : Part} → d ≡ c → Bare p c m → Bare p d m
 mark-by e b = record { choice = e ∙ b.choice; ordered = b.ordered; inside = b.inside }
 
 -- a part in emphasis is not empty, and its bare text is at most as long
@@ -90,7 +90,7 @@ module _ {s : List ℕ} {at end from to : ℕ} (i : Finding s at) (k : PartEnd s
   long = length-take-le (to - from) (drop from s) (omega (arith, length-drop from s, w.high, k.high))
 
   -- its bare text stands at m
-  module _ {m : Mark} (b : Bare (between s from to) (emphasised marks (between s from to)) m) where
+  module _ {m : Part} (b : Bare (between s from to) (emphasised marks (between s from to)) m) where
     pub finding_fits : from + m.to ≤ to
     finding_fits = omega (arith, long, b.inside, w.ordered)
 

@@ -1,57 +1,17 @@
--- Laws of what a text starts and ends with, and a comparison on its way.
+-- Laws of what a text starts and ends with.
 use mathlib.Core.Path.{◌≡◌, refl, sym, ap, ◌∙◌}
 use mathlib.Core.Bool.{Bool, true, false, ◌&&◌}
 use mathlib.Core.List.{List, [], ◌∷◌}
 use Prim.Native.Nat.{ℕ, zero, suc, ◌+◌, ◌-◌, ◌≤◌, ◌<◌}
-use native.Mathlib.Nat.{add-zero}
 use native.Mathlib.Omega.{arith}
-use borrow.Author.Tests.{eqb-true, eq-eqb, ne_eqb, le-leb, lt-leb, leb-true}
+use Rattle.std.proofs.Math.Bool.{and-false}
+use borrow.Author.Tests.{eqb-true, eqb-false, eq-eqb, ne_eqb, le-leb, lt-leb, leb-true, leb-false}
 use lib.Dec.{eqb, leb}
-use lib.ListN.{length, get_or, drop, length-drop, drop_of_length-le}
-use lib.Seq.{get_or-drop}
-use Rattle.lists.proofs.Parts.{at_cons}
-use Rattle.lists.proofs.Tests.{both, true_false}
+use lib.ListN.{length, get_or, take, drop, length-drop}
+use lib.Pointwise.{pointwise}
+use lib.Seq.{get_or-drop, take_all}
+use Rattle.lists.proofs.Tests.{by_flag, both, true_false}
 use Rattle.emphasis.specs.Emphasis.{starts_with, ends_with}
-
--- the first k bytes of p stand in s from `at` on
-pub record Comparing (s : List ℕ) (at : ℕ) (p : List ℕ) (k : ℕ) : Type 0 where
-  pub along : k ≤ length p
-  pub inside : at ≤ length s
-  pub same : starts_with p (drop at s) ≡ starts_with (drop k p) (drop (at + k) s)
-
-pub comparing_start : {s : List ℕ} {at : ℕ} {p : List ℕ} → at ≤ length s → Comparing s at p 0
-comparing_start {s} {at} {p} h = record { along = omega arith; inside = h; same = rw add-zero }
-
-module _ {s : List ℕ} {at : ℕ} {p : List ℕ} {k : ℕ} (i : Comparing s at p k) where
-  pub comparing_end : length p ≤ k → true ≡ starts_with p (drop at s)
-  unfolding starts_with
-  comparing_end h = sym (i.same ∙ rw (drop_of_length-le p h))
-
-  module _ (t : k < length p) where
-    -- s is too short
-    pub comparing_short : length s - at ≤ k → false ≡ starts_with p (drop at s)
-    unfolding starts_with
-    comparing_short h =
-        let l : length s ≤ at + k = omega arith in
-        sym (i.same ∙ rw (at_cons p k 0 t, drop_of_length-le s l))
-
-    module _ (l : k < length s - at) where
-      there : drop (at + k) s ≡ get_or s (at + k) 0 ∷ drop (at + k + 1) s
-      there = at_cons s (at + k) 0 (omega arith)
-
-      pub comparing_other : (get_or s (at + k) 0 ≡ get_or p k 0 → ⊥) → false ≡ starts_with p (drop at s)
-      unfolding starts_with
-      comparing_other n = sym (i.same ∙ rw (at_cons p k 0 t, there, ne_eqb (get_or s (at + k) 0) (get_or p k 0) n))
-
-      pub comparing_more : get_or s (at + k) 0 ≡ get_or p k 0 → Comparing s at p (k + 1)
-      unfolding starts_with
-      comparing_more e =
-          let m : at + k + 1 ≡ at + (k + 1) = omega arith in
-          record {
-            along = omega arith;
-            inside = i.inside;
-            same = i.same ∙ rw (at_cons p k 0 t, there, eq-eqb (get_or s (at + k) 0) (get_or p k 0) e, m);
-          }
 
 -- what a text starts with is no longer than the text
 pub starts_fits : (p s : List ℕ) → starts_with p s ≡ true → length p ≤ length s
@@ -99,9 +59,56 @@ module _ (e s : List ℕ) where
   unfolding ends_with
   ends-fits t = leb-true (length e) (length s) (both (leb (length e) (length s)) (starts_with e (drop (length s - length e) s)) t).0
 
+-- what the library's `strip_prefix`, `strip_suffix`, `starts_with` and `ends_with` compare
+pub by-prefix : (e s : List ℕ) → pointwise eqb (take (length e) s) e ≡ starts_with e s
+unfolding starts_with
+by-prefix [] s = refl
+by-prefix (a ∷ e) [] = refl
+by-prefix (a ∷ e) (b ∷ s) = ap (λ (t : Bool). eqb b a && t) (by-prefix e s)
+
+shorter : (x y : List ℕ) → length x < length y → pointwise eqb x y ≡ false
+shorter x [] h = absurd (omega arith)
+shorter [] (b ∷ y) h = refl
+shorter (a ∷ x) (b ∷ y) h = ap (λ (t : Bool). eqb a b && t) (shorter x y (omega arith)) ∙ and-false (eqb a b)
+
+pub by-suffix : (e s : List ℕ) → pointwise eqb (drop (length s - length e) s) e ≡ ends_with e s
+by-suffix e s = by_flag (leb (length e) (length s)) long short
+  where
+    back : List ℕ
+    back = drop (length s - length e) s
+
+    long : leb (length e) (length s) ≡ true → pointwise eqb back e ≡ ends_with e s
+    long t =
+        let h = leb-true (length e) (length s) t in
+        let m : length back ≤ length e = omega (arith, length-drop (length s - length e) s) in
+        ap (λ (x : List ℕ). pointwise eqb x e) (sym (take_all (length e) back m)) ∙ by-prefix e back ∙ ends_test e s h
+
+    short : leb (length e) (length s) ≡ false → pointwise eqb back e ≡ ends_with e s
+    short t =
+        let h = leb-false (length e) (length s) t in
+        let z : length s - length e ≡ 0 = omega arith in
+        let k : length back < length e = omega (arith, length-drop (length s - length e) s) in
+        shorter back e k ∙ ends-short e s h
+
+swapped : (a b : ℕ) → eqb a b ≡ eqb b a
+swapped a b =
+    by_flag (eqb a b) (λ y. y ∙ sym (eq-eqb b a (sym (eqb-true a b y)))) (λ z. z ∙ sym (ne_eqb b a (λ h. eqb-false a b z (sym h))))
+
+turned : (x y : List ℕ) → pointwise eqb x y ≡ pointwise eqb y x
+turned [] [] = refl
+turned [] (b ∷ y) = refl
+turned (a ∷ x) [] = refl
+turned (a ∷ x) (b ∷ y) = rw (swapped a b, turned x y)
+
+pub by-start : (e s : List ℕ) → pointwise eqb e (take (length e) s) ≡ starts_with e s
+by-start e s = turned e (take (length e) s) ∙ by-prefix e s
+
+pub by-end : (e s : List ℕ) → pointwise eqb e (drop (length s - length e) s) ≡ ends_with e s
+by-end e s = turned e (drop (length s - length e) s) ∙ by-suffix e s
+
 -- two tests, the second only where the first holds
 pub both_hold : (a b : Bool) {t r : Bool} → t ≡ a → t ≡ true → r ≡ b → r ≡ (a && b)
 both_hold a b {t} {r} p q e = e ∙ ap (λ (x : Bool). x && b) (sym q ∙ p)
 
-pub first_fails : (a b : Bool) {t : Bool} → t ≡ a → t ≡ false → false ≡ (a && b)
-first_fails a b {t} p q = ap (λ (x : Bool). x && b) (sym q ∙ p)
+pub first_fails : (a b : Bool) {t : Bool} → t ≡ a → t ≡ false → t ≡ (a && b)
+first_fails a b {t} p q = q ∙ ap (λ (x : Bool). x && b) (sym q ∙ p)

@@ -1,18 +1,19 @@
--- Repetitions of a mark in front of a text and at its end, which are being passed over.
+-- Repetitions of a mark in front of a text and at its end.
 use mathlib.Core.Path.{◌≡◌, refl, sym, ap, ◌∙◌}
-use mathlib.Core.Bool.{Bool, true, false}
+use mathlib.Core.Bool.{true, false}
 use mathlib.Core.List.{List, [], ◌∷◌}
 use Prim.Native.Nat.{ℕ, zero, suc, ◌+◌, ◌-◌, ◌≤◌, ◌<◌}
 use native.Mathlib.Omega.{arith}
 use borrow.Author.Tests.{lt-leb}
-use lib.ListN.{length, take, drop, length-take, length-drop, drop_of_length-le}
-use lib.Seq.{drop-nil, drop-drop, take-take, length-take-le}
-use Rattle.lists.proofs.Parts.{part_end}
+use lib.Dec.{eqb}
+use lib.ListN.{length, take, drop, length-take}
+use lib.Pointwise.{pointwise}
+use lib.Seq.{drop-nil, take-take, take-length}
+use Rattle.lists.specs.Choose.{choose}
 use Rattle.lists.proofs.Tests.{by_flag}
 use Rattle.emphasis.specs.Emphasis.{starts_with, ends_with, strip_start, strip_end, strip, marked}
 use Rattle.emphasis.specs.Found.{Bare}
-use Rattle.emphasis.specs.declared.Mark.{Mark}
-use Rattle.emphasis.proofs.StartsWith.{starts_inside, ends-fits}
+use Rattle.emphasis.proofs.StartsWith.{by-prefix, by-suffix}
 
 skip_start : (k : ℕ) (e s : List ℕ) → strip_start k e s ≡ strip_start 0 e (drop k s)
 unfolding strip_start
@@ -33,109 +34,54 @@ unfolding strip_start
 start_stop e [] h = refl
 start_stop e (c ∷ s) h = rw h
 
--- `at` is behind some repetitions in front
-pub record Leading (e p : List ℕ) (at : ℕ) : Type 0 where
-  pub some : 0 < length e
-  pub inside : at ≤ length p
-  pub same : strip_start 0 e p ≡ strip_start 0 e (drop at p)
-
-pub leading_start : {e p : List ℕ} → 0 < length e → Leading e p 0
-leading_start {e} {p} n = record { some = n; inside = omega arith; same = refl }
-
-module _ {e p : List ℕ} {at : ℕ} (i : Leading e p at) where
-  pub leading_end : length p ≤ at → (at ≤ length p) × (drop at p ≡ strip_start 0 e p)
-  unfolding strip_start
-  leading_end h = (i.inside, sym (i.same ∙ rw (drop_of_length-le p h)))
-
-  module _ {t : Bool} (r : t ≡ starts_with e (drop at p)) where
-    pub leading_stop : t ≡ false → (at ≤ length p) × (drop at p ≡ strip_start 0 e p)
-    leading_stop f = (i.inside, sym (i.same ∙ start_stop e (drop at p) (sym r ∙ f)))
-
-    pub leading_fits : t ≡ true → at + length e ≤ length p
-    leading_fits h = starts_inside e p at i.inside (sym r ∙ h)
-
-    pub leading_more : t ≡ true → Leading e p (at + length e)
-    leading_more h =
-        record {
-          some = i.some;
-          inside = leading_fits h;
-          same = i.same ∙ start-more e (drop at p) i.some (sym r ∙ h) ∙ ap (strip_start 0 e) (drop-drop (length e) at p);
-        }
-
--- behind `to` stand only repetitions at the end, and there are at most `left` more
-pub record Trailing (e p : List ℕ) (from to : ℕ) : Type 0 where
-  pub some : 0 < length e
-  pub left : ℕ
-  pub low : from ≤ to
-  pub inside : to ≤ length p
-  pub enough : to - from ≤ left
-  pub same : strip_end (length (drop from p)) e (drop from p) ≡ strip_end left e (take (to - from) (drop from p))
-
-pub trailing_start : {e p : List ℕ} {from : ℕ} → (0 < length e) × (from ≤ length p) → Trailing e p from (length p)
-trailing_start {e} {p} {from} h =
-    record {
-      some = h.0;
-      left = length (drop from p);
-      low = h.1;
-      inside = omega arith;
-      enough = omega (arith, length-drop from p);
-      same = ap (strip_end (length (drop from p)) e) (sym (part_end p from));
-    }
-
 end_none : (n : ℕ) (e : List ℕ) → 0 < length e → strip_end n e [] ≡ []
 unfolding strip_end ends_with
 end_none zero e h = refl
 end_none (suc n) e h = rw (lt-leb (length e) 0 h)
 
-module _ {e p : List ℕ} {from to : ℕ} (i : Trailing e p from to) where
-  pub trailing_end : to ≤ from → (from ≤ to) × (to ≤ length p) × (take (to - from) (drop from p) ≡ strip_end (length (drop from p)) e (drop from p))
-  trailing_end h =
-      let z : to - from ≡ 0 = omega arith in
-      (i.low, i.inside, rw z (sym (i.same ∙ rw z (end_none i.left e i.some))))
+-- as many repetitions as a text has bytes are enough
+end_enough : (n m : ℕ) (e s : List ℕ) → 0 < length e → length s ≤ n → length s ≤ m → strip_end n e s ≡ strip_end m e s
+unfolding strip_end
+end_enough zero m e [] h a b = sym (end_none m e h)
+end_enough zero m e (c ∷ s) h a b = absurd (omega arith)
+end_enough (suc n) zero e [] h a b = end_none (suc n) e h
+end_enough (suc n) zero e (c ∷ s) h a b = absurd (omega arith)
+end_enough (suc n) (suc m) e s h a b =
+    let l = length-take (length s - length e) s in
+    ap (λ (x : List ℕ). choose (ends_with e s) x s)
+    (end_enough n m e (take (length s - length e) s) h (omega (arith, l)) (omega (arith, l)))
 
-  module _ {t : Bool} (r : t ≡ ends_with e (take (to - from) (drop from p))) where
-    pub trailing_stop : t ≡ false → (from ≤ to) × (to ≤ length p) × (take (to - from) (drop from p) ≡ strip_end (length (drop from p)) e (drop from p))
-    unfolding strip_end
-    trailing_stop f = (i.low, i.inside, sym (i.same ∙ go i.left))
-      where
-        go : (n : ℕ) → strip_end n e (take (to - from) (drop from p)) ≡ take (to - from) (drop from p)
-        go zero = refl
-        go (suc n) = rw (sym r ∙ f)
+-- one repetition at the end, and none
+end-more : (e s : List ℕ) → 0 < length e → ends_with e s ≡ true
+    → strip_end (length s) e s ≡ strip_end (length (take (length s - length e) s)) e (take (length s - length e) s)
+unfolding strip_end
+end-more e s n h =
+    let l = length-take (length s - length e) s in
+    let w : strip_end (suc (length s)) e s ≡ strip_end (length s) e (take (length s - length e) s) = rw h in
+    end_enough (length s) (suc (length s)) e s n (omega arith) (omega arith) ∙ w
+    ∙ end_enough (length s) (length (take (length s - length e) s)) e (take (length s - length e) s) n (omega (arith, l)) (omega arith)
 
-    module _ (h : t ≡ true) where
-      long : length (take (to - from) (drop from p)) ≡ to - from
-      long = length-take-le (to - from) (drop from p) (omega (arith, length-drop from p, i.inside))
+end_stop : (n : ℕ) (e s : List ℕ) → ends_with e s ≡ false → strip_end n e s ≡ s
+unfolding strip_end
+end_stop zero e s h = refl
+end_stop (suc n) e s h = rw h
 
-      pub trailing_fits : length e ≤ to - from
-      trailing_fits = omega (arith, ends-fits e (take (to - from) (drop from p)) (sym r ∙ h), long)
+-- what the library's `strip_prefix` and `strip_suffix` leave
+module _ (e s : List ℕ) where
+  pub prefix_gone : {r : List ℕ} {L : Type 0} → 0 < length e → (pointwise eqb (take (length e) s) e ≡ true) × (r ≡ drop (length e) s) × L
+      → strip_start 0 e s ≡ strip_start 0 e r
+  prefix_gone n c = start-more e s n (sym (by-prefix e s) ∙ c.0) ∙ ap (strip_start 0 e) (sym c.1)
 
-      pub trailing_more : Trailing e p from (to - length e)
-      unfolding strip_end
-      trailing_more = go i.left i.enough i.same
-        where
-          go : (k : ℕ) → to - from ≤ k → strip_end (length (drop from p)) e (drop from p) ≡ strip_end k e (take (to - from) (drop from p))
-              → Trailing e p from (to - length e)
-          go zero b q = absurd (omega (arith, trailing_fits, i.some))
-          go (suc k) b q =
-              let f = trailing_fits in
-              let o = i.inside in
-              let n = i.some in
-              let m : to - from - length e ≡ to - length e - from = omega arith in
-              let w : strip_end (suc k) e (take (to - from) (drop from p)) ≡ strip_end k e (take (to - length e - from) (drop from p)) =
-              rw (sym r ∙ h, long, m) (ap (strip_end k e) (take-take (to - length e - from) (to - from) (drop from p) (omega arith))) in
-              record { some = n; left = k; low = omega arith; inside = omega arith; enough = omega arith; same = q ∙ w }
+  pub no-prefix : pointwise eqb (take (length e) s) e ≡ false → strip_start 0 e s ≡ s
+  no-prefix c = start_stop e s (sym (by-prefix e s) ∙ c)
 
--- the bare text stands between the two
-pub bare_mark : (e p : List ℕ) {m : Mark} → (m.from ≤ length p) × (drop m.from p ≡ strip_start 0 e p)
-    → (m.from ≤ m.to) × (m.to ≤ length p) × (take (m.to - m.from) (drop m.from p) ≡ strip_end (length (drop m.from p)) e (drop m.from p))
-    → Bare p (marked (length p - length (strip_start 0 e p)) p (strip e p)) m
-unfolding strip
-bare_mark e p {m} a b =
-    let l : length (strip_start 0 e p) ≡ length p - m.from = ap length (sym a.1) ∙ length-drop m.from p in
-    let f : length p - length (strip_start 0 e p) ≡ m.from = omega (arith, a.0) in
-    let s : strip_end (length (strip_start 0 e p)) e (strip_start 0 e p) ≡ take (m.to - m.from) (drop m.from p) =
-    sym (b.2 ∙ ap (λ (x : List ℕ). strip_end (length x) e x) a.1) in
-    record { choice = cc; ordered = b.0; inside = b.1 }
+  pub suffix_gone : {r : List ℕ} {L : Type 0} → 0 < length e
+      → (pointwise eqb (drop (length s - length e) s) e ≡ true) × (r ≡ take (length s - length e) s) × L
+      → strip_end (length s) e s ≡ strip_end (length r) e r
+  suffix_gone n c = end-more e s n (sym (by-suffix e s) ∙ c.0) ∙ ap (λ (x : List ℕ). strip_end (length x) e x) (sym c.1)
+
+  pub no-suffix : pointwise eqb (drop (length s - length e) s) e ≡ false → strip_end (length s) e s ≡ s
+  no-suffix c = end_stop (length s) e s (sym (by-suffix e s) ∙ c)
 
 -- what is left is no longer than the text
 start-length : (e s : List ℕ) (k : ℕ) → length (strip_start k e s) ≤ length s
@@ -156,3 +102,50 @@ end_length (suc n) e s =
 pub strip-length : (e s : List ℕ) → length (strip e s) ≤ length s
 unfolding strip
 strip-length e s = omega (arith, end_length (length (strip_start 0 e s)) e (strip_start 0 e s), start-length e s 0)
+
+-- a part at the end of s is one of c and s
+behind : (c : ℕ) (s x : List ℕ) → length x ≤ length s → drop (length s - length x) s ≡ x → drop (suc (length s) - length x) (c ∷ s) ≡ x
+behind c s x l h = let m : suc (length s) - length x ≡ suc (length s - length x) = omega arith in rw m h
+
+-- what is left is a part of the text
+start_part : (k : ℕ) (e s : List ℕ) → drop (length s - length (strip_start k e s)) s ≡ strip_start k e s
+unfolding strip_start
+start_part k e [] = refl
+start_part (suc k) e (c ∷ s) = behind c s (strip_start k e s) (start-length e s k) (start_part k e s)
+start_part zero e (c ∷ s) =
+    by_flag (starts_with e (c ∷ s))
+    (λ y. rw y (behind c s (strip_start (length e - 1) e s) (start-length e s (length e - 1)) (start_part (length e - 1) e s)))
+    (λ z. let w : suc (length s) - suc (length s) ≡ 0 = omega arith in rw (z, w))
+
+end_part : (n : ℕ) (e s : List ℕ) → take (length (strip_end n e s)) s ≡ strip_end n e s
+unfolding strip_end
+end_part zero e s = take-length s
+end_part (suc n) e s = by_flag (ends_with e s) (λ y. rw y (go (end_part n e front))) (λ z. rw z (take-length s))
+  where
+    front : List ℕ
+    front = take (length s - length e) s
+
+    go : take (length (strip_end n e front)) front ≡ strip_end n e front → take (length (strip_end n e front)) s ≡ strip_end n e front
+    go h =
+        let l : length (strip_end n e front) ≤ length s - length e =
+        omega (arith, end_length n e front, length-take (length s - length e) s) in
+        sym (take-take (length (strip_end n e front)) (length s - length e) s l) ∙ h
+
+-- the bare text of p is r, where l is left of p without the mark in front
+module _ (e p : List ℕ) {l : List ℕ} (a : l ≡ strip_start 0 e p) where
+  pub start_less : length l ≤ length p
+  start_less = rw a (start-length e p 0)
+
+  module _ {r : List ℕ} (b : r ≡ strip_end (length l) e l) where
+    pub bare_mark : Bare p (marked (length p - length (strip_start 0 e p)) p (strip e p))
+        (record { from = length p - length l; to = length p - length l + length r })
+    unfolding strip
+    bare_mark =
+        let f : length p - length (strip_start 0 e p) ≡ length p - length l = ap (λ (x : List ℕ). length p - length x) (sym a) in
+        let g : drop (length p - length l) p ≡ l = ap (λ (k : ℕ). drop k p) (sym f) ∙ start_part 0 e p ∙ sym a in
+        let h : length p - length l + length r - (length p - length l) ≡ length r = omega arith in
+        let t : take (length r) l ≡ r = ap (λ (x : List ℕ). take (length x) l) b ∙ end_part (length l) e l ∙ sym b in
+        let u : take (length p - length l + length r - (length p - length l)) (drop (length p - length l) p) ≡ r = rw (h, g) t in
+        let s : strip_end (length (strip_start 0 e p)) e (strip_start 0 e p) ≡ r = ap (λ (x : List ℕ). strip_end (length x) e x) (sym a) ∙ sym b in
+        let m : length r ≤ length l = rw b (end_length (length l) e l) in
+        record { choice = cc; ordered = omega arith; inside = omega (arith, start_less, m) }

@@ -4,7 +4,7 @@ use Rattle.lists.specs.Choose.{choose}
 use Rattle.emphasis.specs.Commas.{parts}
 use Rattle.emphasis.specs.Emphasis.{Choice, plain, marked, choice_of}
 use Rattle.emphasis.specs.declared.Found.{Found}
-use Rattle.emphasis.specs.declared.Mark.{Mark}
+use Rattle.white_space.specs.declared.Part.{Part}
 
 -- the parts behind a comma at index r; none where the text ends there
 abbrev pub parts_behind : List ℕ → ℕ → List (List ℕ)
@@ -17,13 +17,13 @@ pub record PartEnd (s : List ℕ) (at r : ℕ) : Type 0 where
   pub same : parts (drop at s) ≡ take (r - at) (drop at s) ∷ parts_behind s r
 
 -- the part p stands without its emphasis at m
-pub record Bare (p : List ℕ) (c : Choice) (m : Mark) : Type 0 where
+pub record Bare (p : List ℕ) (c : Choice) (m : Part) : Type 0 where
   pub choice : c ≡ marked m.from p (take (m.to - m.from) (drop m.from p))
   pub ordered : m.from ≤ m.to
   pub inside : m.to ≤ length p
 
 -- where it does, if it has an emphasis
-abbrev pub MarkOf : List ℕ → Choice → Option Mark → Type 0
+abbrev pub MarkOf : List ℕ → Choice → Option Part → Type 0
 MarkOf p c None = c ≡ plain
 MarkOf p c (Some m) = Bare p c m
 

@@ -3,7 +3,7 @@ use Rattle.std.specs.Prelude.{List, ◌≡◌, ℕ, length, Option, None, Some, 
 use Rattle.model.specs.Refusals.{numbers, Reading}
 use Rattle.model.specs.declared.Refusal.{Refusal}
 use Rattle.utils.specs.Split.{split_of, scratch_of, answered, Places}
-use Rattle.utils.specs.declared.Rewritten.{Rewritten}
+use Rattle.values.specs.declared.Rewritten.{Rewritten}
 use Rattle.numbers.specs.declared.Answer.{Answer}
 use Rattle.numbers.specs.declared.SplitAnswer.{SplitAnswer}
 

@@ -2,7 +2,7 @@
 #![tactic(auto)]
 
 use model::{Numbers, Refusal};
-use utils::Rewritten;
+use values::Rewritten;
 
 // n = 0 and a record of `a` bytes, or a refusal's N, A and B.
 #[repr(C)]

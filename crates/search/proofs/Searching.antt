@@ -2,6 +2,7 @@
 use mathlib.Core.Path.{◌≡◌, sym, ap, ◌∙◌}
 use mathlib.Core.Bool.{true, false}
 use mathlib.Core.List.{List}
+use mathlib.Core.Logic.{∥∥₁_elim}
 use Prim.Native.Nat.{ℕ, ◌+◌, ◌-◌, ◌≤◌, ◌<◌}
 use native.Mathlib.Omega.{arith}
 use borrow.Author.Tests.{ltb-true, ltb-false}
@@ -10,7 +11,9 @@ use lib.ListN.{length, get_or, drop}
 use Rattle.lists.proofs.Tests.{by_flag}
 use Rattle.emphasis.specs.Emphasis.{starts_with}
 use Rattle.emphasis.proofs.StartsWith.{starts_inside, place-bytes, bytes-place}
-use Rattle.search.specs.Periods.{Safe, FirstPlace}
+use Rattle.std.proofs.Props.{props}
+use Rattle.search.specs.Periods.{Knows, Periods, Safe, FirstPlace}
+use Rattle.search.specs.declared.Stretch.{Stretch}
 use Rattle.search.proofs.Shifting.{one_more, left, shift_less}
 
 -- p stands nowhere from `from` up to i, and its first j bytes stand at i
@@ -100,3 +103,8 @@ module _ {s p : List ℕ} {from i j : ℕ} (w : Searching s p from i j) where
 
 pub found_here : {s p : List ℕ} {from r : ℕ} → FirstPlace s from p r → (r ≡ length s → ⊥) → starts_with p (drop r s) ≡ true
 found_here f n = f.here (omega (arith, f.high))
+
+-- a shift by the periods of p is safe
+pub safe_shift : {p : List ℕ} {t : List Stretch} {j by keep : ℕ} → ∥ Periods p t (length t) ∥₁ → j ≤ length p
+    → ((x : List ℕ) → Knows x t (length t) j → Safe x j by keep) → Safe p j by keep
+safe_shift {p} {t} {j} h l f = ∥∥₁_elim h (Prim.hlevel props) (λ w. f p (w.knows j l))

@@ -12,7 +12,7 @@ use arrayvec::ArrayVec;
 fn covers(e: usize, reach: usize, j: usize) -> bool
     ensures { result ≡ (leb (4 * e) j && leb j reach) }
 {
-    if e <= j / 4 { j <= reach } else { false }
+    e <= j / 4 && j <= reach
 }
 
 // How far a text moves on after a mismatch, and how many of its bytes match there already.
@@ -55,7 +55,7 @@ fn shift_after(t: &[Stretch], j: usize) -> Shift
 fn is_new(e: usize, reach: usize, top: usize) -> bool
     ensures { result ≡ (leb (4 * e) reach && ltb top reach) }
 {
-    if e <= reach / 4 { top < reach } else { false }
+    e <= reach / 4 && top < reach
 }
 
 // The short periods of p, by a search for p in itself after Galil and Seiferas 1983. Each is more than three times the one before.
@@ -86,22 +86,31 @@ pub fn periods_of(p: &[u8]) -> ArrayVec<Stretch, PERIODS>
     t
 }
 
-// The first place r from `from` on where p stands in s, or the end, in at most 4 (r - from) + |p| turns.
-pub fn find(s: &[u8], from: usize, p: &[u8], t: &[Stretch]) -> usize
-    requires { (from ≤ length s.now) × Periods p.now t.now (length t.now) }
-    ensures { FirstPlace s.now from p.now result }
+// A text to be searched for, and its short periods. (A period may be covered by two entries: the fact has more than one proof, hence `∥ ∥₁`.)
+#[derive(Clone, Copy)]
+pub struct Pattern<'t, 'p> {
+    pub text: &'t [u8],
+    pub periods: &'p [Stretch],
+    pub ghost known: { ∥ Periods text.now periods.now (length periods.now) ∥₁ },
+}
+
+// The first place r from `from` on where the text p stands in s, or the end, in at most 4 (r - from) + |p| turns.
+pub fn find(s: &[u8], from: usize, p: Pattern) -> usize
+    requires { from ≤ length s.now }
+    ensures { FirstPlace s.now from p.entry.text.now result }
 {
+    let text = p.text;
     let mut i = from;
     let mut j: usize = 0;
     // No `for`: a turn goes on by a byte or by a period.
-    while p.len() <= s.len() - i {
-        if j == p.len() {
+    while text.len() <= s.len() - i {
+        if j == text.len() {
             return i;
         }
-        if s[i + j] == p[j] {
+        if s[i + j] == text[j] {
             j += 1;
         } else {
-            let b = shift_after(t, j);
+            let b = shift_after(p.periods, j);
             i += b.by;
             j = b.keep;
         }

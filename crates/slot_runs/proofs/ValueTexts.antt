@@ -9,7 +9,7 @@ use Rattle.lists.proofs.Parts.{part_part}
 use Rattle.model.specs.Limits.{text_bytes}
 use Rattle.record.specs.Policy.{Text}
 use Rattle.values.specs.Values.{Values, values_of, MeasuredOf}
-use Rattle.values.specs.declared.Measured.{Measured}
+use Rattle.values.specs.declared.Rewritten.{Rewritten}
 use Rattle.values.proofs.ValueLaws.{split-length}
 use Rattle.cells.proofs.SpanLaws.{part_of_lem}
 use Rattle.clauses.specs.Clauses.{present}
@@ -42,7 +42,7 @@ module _ (bytes : List ℕ) (p : Part) where
   lent = take (p.offset + p.size - p.offset) (drop p.offset bytes)
 
   module _ (i : PartIn p bytes) where
-    pub marked_in : (v : Measured) → MeasuredOf (Some v) lent → MarkedIn bytes p v.bytes v.from v.to
+    pub marked_in : (v : Rewritten) → MeasuredOf (Some v) lent → MarkedIn bytes p v.bytes v.from v.to
     marked_in v m =
         let n = v.bytes in
         let a = v.from in

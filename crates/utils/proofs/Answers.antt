@@ -1,10 +1,10 @@
 -- The answers of the value split, and what they say of the values of the text.
 use Rattle.std.specs.Prelude.{Ok, Err, Result, Some}
 use mathlib.Core.Path.{◌≡◌, refl, sym, ap, ◌∙◌}
-use mathlib.Core.Bool.{false}
+use mathlib.Core.Bool.{true, false}
 use mathlib.Core.List.{List}
-use Prim.Native.Nat.{ℕ, ◌-◌, ◌≤◌}
-use borrow.Author.Tests.{le-ltb}
+use Prim.Native.Nat.{ℕ, ◌-◌, ◌≤◌, ◌<◌}
+use borrow.Author.Tests.{lt-ltb, le-ltb}
 use lib.Dec.{ltb}
 use lib.ListN.{length, take, drop}
 use lib.Seq.{take_at}
@@ -12,7 +12,7 @@ use Rattle.lists.specs.Put.{put}
 use Rattle.lists.proofs.AnswerLaws.{refused-ok}
 use Rattle.lists.proofs.PutLaws.{put_front}
 use Rattle.lists.proofs.Tests.{by_flag}
-use Rattle.model.specs.declared.Refusal.TheVariants.{InvalidUtf8}
+use Rattle.model.specs.declared.Refusal.TheVariants.{InvalidUtf8, OutputSliceShort}
 use Rattle.utf8.specs.Utf8.{checked, on_text}
 use Rattle.emphasis.specs.Emphasis.{Choice, plain, marked, choice_of}
 use Rattle.emphasis.specs.Found.{Emphasised}
@@ -21,7 +21,7 @@ use Rattle.emphasis.proofs.Finding.{between}
 use Rattle.rewriting.specs.Replaced.{replace_all}
 use Rattle.values.specs.Values.{Values, values_by, values_of}
 use Rattle.utils.specs.Split.{split_by, split_of, answered}
-use Rattle.utils.specs.declared.Rewritten.{Rewritten}
+use Rattle.values.specs.declared.Rewritten.{Rewritten}
 
 -- the bytes that `split_text` writes are the allowed values, and the bare text is the default
 pub answer_rewritten : {t : List ℕ} {f : Found} → Emphasised t f → (d : List ℕ) {n : ℕ} {o : List ℕ}
@@ -33,6 +33,14 @@ answer_rewritten {t} {f} i d {n} {o} e l u =
     let w : take n o ≡ replace_all 0 (between t f.from f.to) (between t f.a f.b) t =
     ap (take n) (u ∙ put_front d _ n (sym e)) ∙ take_at _ (drop n d) n (sym e) in
     rw (i.choice, z, w)
+
+-- the refusal tells how many bytes they are
+pub answer_short : {t : List ℕ} {f : Found} → Emphasised t f → (d : List ℕ) {n : ℕ}
+    → n ≡ length (replace_all 0 (between t f.from f.to) (between t f.a f.b) t) → length d < n
+    → Err (OutputSliceShort n) ≡ split_by (choice_of t) t (length d)
+answer_short {t} {f} i d {n} e l =
+    let z : ltb (length d) (length (replace_all 0 (between t f.from f.to) (between t f.a f.b) t)) ≡ true = lt-ltb _ _ (rw e at l) in
+    rw (i.choice, z, e) refl
 
 -- a split that is not refused gives the values of the text
 pub split-ok : (t : List ℕ) (room : ℕ) (v : Values) → split_of t room ≡ Ok v → (checked t ≡ (Ok tt)) × (v ≡ values_of t)

@@ -8,7 +8,7 @@ use Rattle.utf8.specs.Utf8.{checked, on_text}
 use Rattle.emphasis.specs.Emphasis.{Choice, plain, marked, choice_of}
 use Rattle.rewriting.specs.Replaced.{replace_all}
 use Rattle.values.specs.Values.{Values, values_by}
-use Rattle.utils.specs.declared.Rewritten.{Rewritten}
+use Rattle.values.specs.declared.Rewritten.{Rewritten}
 
 -- a rewritten text goes to a slice of `room` bytes: number 27 where it is too short. The own text needs none
 abbrev pub split_by : Choice → List ℕ → ℕ → Reading Values

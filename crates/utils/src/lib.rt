@@ -7,17 +7,12 @@ ghost use Rattle.emphasis.specs.Emphasis.{choice_of};
 ghost use Rattle.utils.specs.Split.{split_by, split_of, scratch_by, scratch_of, answered, Places, allowed_in};
 
 use model::Refusal;
-
-// Rewritten values: so many bytes of the scratch slice are the allowed values, and the default stands in the text from one place up to another.
-#[derive(Clone, Copy)]
-pub struct Rewritten {
-    pub bytes: usize,
-    pub from: usize,
-    pub to: usize,
-}
+use search::Pattern;
+use values::Rewritten;
 
 // The value split of a text, with the allowed values in scratch where they are rewritten. None is rewritten where the text itself is the
-// allowed values; there is no default then.
+// allowed values; there is no default then. (By `measure_values` and `put_values` of `values`, which it repeats, the part in emphasis and its
+// periods are found twice: tried, and up to 1.7 times the instructions of a split.)
 fn split_text(text: &[u8], scratch: &mut [u8]) -> Result<Option<Rewritten>, Refusal>
     ensures answer { answered result text.now scratch.new ≡ split_by (choice_of text.now) text.now (length scratch.old) }
     ensures places { Places result text.now scratch.new }
@@ -28,12 +23,16 @@ fn split_text(text: &[u8], scratch: &mut [u8]) -> Result<Option<Rewritten>, Refu
     };
     let part = &text[f.from..f.to];
     let bare = &text[f.a..f.b];
-    let t = search::periods_of(part);
-    let bytes = rewriting::measure(text, part, bare, t.as_slice());
+    let periods = search::periods_of(part);
+    let pattern = Pattern {
+        text: part,
+        periods: periods.as_slice(),
+    };
+    let bytes = rewriting::measure(text, pattern, bare);
     if scratch.len() < bytes {
         return Err(Refusal::OutputSliceShort(bytes));
     }
-    rewriting::rewrite(text, part, bare, t.as_slice(), scratch, 0);
+    rewriting::rewrite(text, pattern, bare, scratch, 0);
     Ok(Some(Rewritten {
         bytes,
         from: f.a,
@@ -70,8 +69,5 @@ pub fn allowed_values<'a>(
 fn front(s: &[u8], n: usize) -> &[u8]
     ensures { result.now ≡ take n s.now }
 {
-    if n <= s.len() {
-        return &s[0..n];
-    }
-    s
+    s.get(..n).unwrap_or(s)
 }

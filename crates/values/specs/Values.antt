@@ -3,7 +3,7 @@
 use Rattle.std.specs.Prelude.{List, ◌≡◌, ℕ, ◌-◌, ◌≤◌, length, take, drop, Option, None, Some}
 use Rattle.emphasis.specs.Emphasis.{Choice, plain, marked, choice_of}
 use Rattle.rewriting.specs.Replaced.{replace_all}
-use Rattle.values.specs.declared.Measured.{Measured}
+use Rattle.values.specs.declared.Rewritten.{Rewritten}
 
 -- allowed values, and a default that may be absent
 pub record Values : Type 0 where
@@ -19,7 +19,7 @@ unfoldable pub values_of : List ℕ → Values
 values_of t = values_by (choice_of t) t
 
 -- what is measured of the values of a text: they are the text itself; or n bytes of allowed values, and a part of the text is the default
-abbrev pub MeasuredOf : Option Measured → List ℕ → Type 0
+abbrev pub MeasuredOf : Option Rewritten → List ℕ → Type 0
 MeasuredOf None t = values_of t ≡ record { allowed = t; default = None }
 MeasuredOf (Some m) t =
     (m.bytes ≡ length (values_of t).allowed) × ((values_of t).default ≡ Some (take (m.to - m.from) (drop m.from t))) × (m.from ≤ m.to) × (m.to ≤ length t)

@@ -6,23 +6,29 @@ ghost use Rattle.std.specs.Prelude.{◌≡◌, ◌+◌, ◌≤◌, length};
 ghost use Rattle.lists.specs.Put.{put};
 ghost use Rattle.values.specs.Values.{values_of, MeasuredOf};
 
-// So many bytes of rewritten text, and a default that stands in the text from one place up to another.
+use search::Pattern;
+
+// Rewritten values: so many bytes are the allowed values, and the default stands in the text from one place up to another.
 #[derive(Clone, Copy)]
-pub struct Measured {
+pub struct Rewritten {
     pub bytes: usize,
     pub from: usize,
     pub to: usize,
 }
 
 // The value split of a text, measured and not written; none where its values are the text itself.
-pub fn measure_values(text: &[u8]) -> Option<Measured>
+pub fn measure_values(text: &[u8]) -> Option<Rewritten>
     ensures { MeasuredOf result text.now }
 {
     let f = emphasis::first_marked(text)?;
     let part = &text[f.from..f.to];
-    let t = search::periods_of(part);
-    let bytes = rewriting::measure(text, part, &text[f.a..f.b], t.as_slice());
-    Some(Measured {
+    let periods = search::periods_of(part);
+    let pattern = Pattern {
+        text: part,
+        periods: periods.as_slice(),
+    };
+    let bytes = rewriting::measure(text, pattern, &text[f.a..f.b]);
+    Some(Rewritten {
         bytes,
         from: f.a,
         to: f.b,
@@ -37,8 +43,12 @@ pub fn put_values(text: &[u8], out: &mut [u8], at: usize) -> usize
 {
     if let Some(f) = emphasis::first_marked(text) {
         let part = &text[f.from..f.to];
-        let t = search::periods_of(part);
-        return rewriting::rewrite(text, part, &text[f.a..f.b], t.as_slice(), out, at);
+        let periods = search::periods_of(part);
+        let pattern = Pattern {
+            text: part,
+            periods: periods.as_slice(),
+        };
+        return rewriting::rewrite(text, pattern, &text[f.a..f.b], out, at);
     }
     lists::put_bytes(out, at, text);
     at + text.len()

@@ -97,16 +97,12 @@ fn codes_end(s: &[u32], from: usize) -> usize
     requires { from ≤ length s.now }
     ensures { PartIn s.now from (length s.now) (drop from s.now) (trim_end (drop from s.now)) from result }
 {
-    let mut to = s.len();
-    // No `for`: it counts down, and a reversed range is no plainer.
-    while from < to {
-        if white_code(s[to - 1]) {
-            to -= 1;
-        } else {
-            return to;
+    for i in (from..s.len()).rev() {
+        if !white_code(s[i]) {
+            return i + 1;
         }
     }
-    to
+    from
 }
 
 // The part of some code points that is left without the white space at the ends.

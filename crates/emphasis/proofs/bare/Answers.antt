@@ -1,6 +1,10 @@
 -- `emphasis::bare` meets its contract.
-use Rattle.emphasis.proofs.Stripping.{bare_mark}
+use native.Mathlib.Omega.{arith}
+use Rattle.emphasis.proofs.Stripping.{start_less, bare_mark}
 use Rattle.emphasis.proofs.bare.Goals as goal
 
+pub overflow_sub-from : goal.overflow_sub-from
+overflow_sub-from c = omega (arith, start_less _ _ c.strip_start-left.ensures)
+
 pub returns : goal.returns
-returns c = bare_mark _ _ c.strip_start-from.ensures c.strip_end-to.ensures
+returns c = bare_mark _ _ c.strip_start-left.ensures c.strip_end.ensures

@@ -1,9 +1,10 @@
 -- `emphasis::is_marked` meets its contract.
-use Rattle.emphasis.proofs.StartsWith.{both_hold, first_fails}
+use mathlib.Core.Path.{◌∙◌}
+use Rattle.emphasis.proofs.StartsWith.{both_hold, first_fails, by-start, by-end}
 use Rattle.emphasis.proofs.is_marked.Goals as goal
 
-pub returns-then-starts_at : goal.returns-then-starts_at
-returns-then-starts_at c = both_hold _ _ c.starts_at.ensures c.if-starts_at.true c.ends_with.ensures
+pub returns-then-starts_with : goal.returns-then-starts_with
+returns-then-starts_with c = both_hold _ _ (c.starts_with.ensures.value ∙ by-start _ _) c.if-starts_with.true (c.ends_with.ensures.value ∙ by-end _ _)
 
-pub returns-else-starts_at : goal.returns-else-starts_at
-returns-else-starts_at c = first_fails _ _ c.starts_at.ensures c.if-starts_at.false
+pub returns-else-starts_with : goal.returns-else-starts_with
+returns-else-starts_with c = first_fails _ _ (c.starts_with.ensures.value ∙ by-start _ _) c.if-starts_with.false

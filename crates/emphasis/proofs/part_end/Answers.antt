@@ -1,18 +1,16 @@
 -- `emphasis::part_end` meets its contract.
-use Rattle.std.proofs.Common.{◌≡◌, length, arith}
-use Rattle.emphasis.proofs.Commas.{seeking_start, seeking_end, seeking_found, seeking_more}
+use Rattle.std.proofs.Common.{rules, tests, ◌≡◌, ◌∙◌, ap, length, take, drop, ◌-◌, nat_eq, List, ℕ}
+use Rattle.std.proofs.lemmas.Iterator.{YieldsList-from_slice}
+use Rattle.std.proofs.lemmas.Iterator.Search.{position_from_yields_List}
+use Rattle.lists.proofs.Parts.{part_end}
+use Rattle.emphasis.specs.Commas.{comma}
+use Rattle.emphasis.proofs.Commas.{before_comma, before-found, part_ends}
 use Rattle.emphasis.proofs.part_end.Goals as goal
-
-pub loop-i-init : goal.loop-i-init
-loop-i-init c = seeking_start c.requires
-
-pub returns-then-s-i-eq44 : goal.returns-then-s-i-eq44
-returns-then-s-i-eq44 c = seeking_found c.loop-i.invariant c.loop-i-test.true c.if-s-i-eq44.true
-
-pub loop-i-preserved : goal.loop-i-preserved
-loop-i-preserved c = seeking_more c.loop-i.invariant c.loop-i-test.true c.if-s-i-eq44.false
 
 pub returns : goal.returns
 returns c =
-    let e : c.loop-i.i ≡ length c.args.s.now = omega (arith, c.loop-i-test.false, c.loop-i.auto.i-end) in
-    rw e at (seeking_end c.loop-i.invariant c.loop-i-test.false)
+    let a = c.args in
+    let whole : take (length a.s.now - a.at) (drop a.at a.s.now) ≡ drop a.at a.s.now = part_end a.s.now a.at in
+    let found = position_from_yields_List (λ x. nat_eq x comma) _ _ c.position.result c.position.ensures.ran
+    (YieldsList-from_slice (take (length a.s.now - a.at) (drop a.at a.s.now)) c.iter.ensures.rest) (λ x b q k. search (rules, tests)) in
+    part_ends a.s.now a.at _ c.requires (c.unwrap_or.ensures ∙ before-found _ found ∙ ap (λ (s : List ℕ). before_comma s) whole)

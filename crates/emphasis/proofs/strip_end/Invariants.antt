@@ -1,8 +1,10 @@
-use Rattle.emphasis.proofs.Stripping.{Trailing}
+use mathlib.Core.Path.{◌≡◌}
+use lib.ListN.{length}
+use Rattle.emphasis.specs.Emphasis.{strip_end}
 use Rattle.emphasis.proofs.strip_end.Given as goal
 
-abbrev pub invariant-loop-to : goal.invariant-loop-to
-invariant-loop-to l = Trailing l.e l.p l.from l.to
+abbrev pub invariant-loop-front : goal.invariant-loop-front
+invariant-loop-front l = strip_end (length l.p) l.e l.p ≡ strip_end (length l.left) l.e l.left
 
-abbrev pub decreases-loop-to : goal.decreases-loop-to
-decreases-loop-to l = l.to
+abbrev pub decreases-loop-front : goal.decreases-loop-front
+decreases-loop-front l = length l.left

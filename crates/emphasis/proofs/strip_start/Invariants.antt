@@ -1,10 +1,10 @@
-use Prim.Native.Nat.{◌-◌}
+use mathlib.Core.Path.{◌≡◌}
 use lib.ListN.{length}
-use Rattle.emphasis.proofs.Stripping.{Leading}
+use Rattle.emphasis.specs.Emphasis.{strip_start}
 use Rattle.emphasis.proofs.strip_start.Given as goal
 
-abbrev pub invariant-loop-at : goal.invariant-loop-at
-invariant-loop-at l = Leading l.e l.p l.at
+abbrev pub invariant-loop-rest : goal.invariant-loop-rest
+invariant-loop-rest l = strip_start 0 l.e l.p ≡ strip_start 0 l.e l.left
 
-abbrev pub decreases-loop-at : goal.decreases-loop-at
-decreases-loop-at l = length l.p - l.at
+abbrev pub decreases-loop-rest : goal.decreases-loop-rest
+decreases-loop-rest l = length l.left

@@ -5,10 +5,10 @@ use Rattle.rewriting.proofs.Replacing.{measuring_start, measuring_end, measuring
 use Rattle.rewriting.proofs.measure.Goals as goal
 
 pub loop-i-init : goal.loop-i-init
-loop-i-init c = measuring_start c.requires.p_nonzero
+loop-i-init c = measuring_start c.requires
 
 pub find-r-requires : goal.find-r-requires
-find-r-requires c = (c.loop-i.invariant.inside, c.requires.periods)
+find-r-requires c = c.loop-i.invariant.inside
 
 pub overflow_add-size : goal.overflow_add-size
 overflow_add-size c = let m = measuring_copy c.loop-i.invariant c.find-r.ensures in omega (arith, m.less, m.inside)

@@ -4,7 +4,7 @@ use Rattle.rewriting.proofs.Replacing.{Measuring}
 use Rattle.rewriting.proofs.measure.Given as goal
 
 abbrev pub invariant-loop-i : goal.invariant-loop-i
-invariant-loop-i l = Measuring l.p l.q l.s l.i l.size
+invariant-loop-i l = Measuring l.p.text.now l.q l.s l.i l.size
 
 abbrev pub decreases-loop-i : goal.decreases-loop-i
 decreases-loop-i l = length l.s - l.i

@@ -5,10 +5,10 @@ use Rattle.rewriting.proofs.Replacing.{rewriting_start, rewriting_end, rewriting
 use Rattle.rewriting.proofs.rewrite.Goals as goal
 
 pub loop-i-init : goal.loop-i-init
-loop-i-init c = rewriting_start c.requires.p_nonzero
+loop-i-init c = rewriting_start c.requires
 
 pub find-r-requires : goal.find-r-requires
-find-r-requires c = (c.loop-i.invariant.inside, c.requires.periods)
+find-r-requires c = c.loop-i.invariant.inside
 
 pub put_bytes-requires : goal.put_bytes-requires
 put_bytes-requires c = rewriting_room c.loop-i.invariant c.find-r.ensures

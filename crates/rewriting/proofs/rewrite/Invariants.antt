@@ -4,7 +4,7 @@ use Rattle.rewriting.proofs.Replacing.{Rewriting}
 use Rattle.rewriting.proofs.rewrite.Given as goal
 
 abbrev pub invariant-loop-i : goal.invariant-loop-i
-invariant-loop-i l = Rewriting l.p l.q l.s l.initial.out l.out l.at l.i l.end
+invariant-loop-i l = Rewriting l.p.text.now l.q l.s l.initial.out l.out l.at l.i l.end
 
 abbrev pub decreases-loop-i : goal.decreases-loop-i
 decreases-loop-i l = length l.s - l.i

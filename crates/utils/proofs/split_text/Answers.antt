@@ -1,6 +1,9 @@
 -- `utils::split_text` meets its contract.
-use Rattle.utils.proofs.Answers.{answer_rewritten}
+use Rattle.utils.proofs.Answers.{answer_rewritten, answer_short}
 use Rattle.utils.proofs.split_text.Goals as goal
+
+pub returns-then-scratch-bytes-clause-answer : goal.returns-then-scratch-bytes-clause-answer
+returns-then-scratch-bytes-clause-answer c = answer_short c.in-Some.ensures c.args.scratch.now c.measure-bytes.ensures c.if-scratch-bytes.true
 
 pub returns-clause-answer : goal.returns-clause-answer
 returns-clause-answer c =

@@ -3,13 +3,10 @@ use mathlib.Core.Path.{refl}
 use Rattle.values.proofs.ValueLaws.{part_sizes, allowed-plain, allowed-marked}
 use Rattle.values.proofs.put_values.Goals as goal
 
-pub periods_of-t-requires : goal.periods_of-t-requires
-periods_of-t-requires c = (part_sizes c.in-Some.ensures).0
-
 pub rewrite-requires : goal.rewrite-requires
 rewrite-requires c =
     let e = c.in-Some.ensures in
-    record { p_nonzero = ((part_sizes e).0, rw (allowed-marked e) at c.requires); periods = rw c.as_slice.ensures.value c.periods_of-t.ensures }
+    ((part_sizes e).0, rw (allowed-marked e) at c.requires)
 
 pub returns-in-Some : goal.returns-in-Some
 returns-in-Some c =
