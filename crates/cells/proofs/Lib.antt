@@ -3,3 +3,4 @@ pub mod PlaneLaws
 pub mod WriterLaws
 pub mod SpanLaws
 pub mod AmongLaws
+pub mod SpotLaws

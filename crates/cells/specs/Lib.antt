@@ -1,4 +1,5 @@
 pub mod Plane
+pub mod Places
 pub mod Spans
 pub mod Held
 pub mod Slices

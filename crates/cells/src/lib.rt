@@ -8,6 +8,7 @@ ghost use Rattle.model.specs.Limits.{plane_rows, plane_cells, plane_size};
 ghost use Rattle.cells.specs.Spans.{offset_at, length_at, text_at};
 ghost use Rattle.cells.specs.Plane.{cells_in, KeptBefore};
 
+pub mod place;
 pub mod plane;
 pub mod plane_writer;
 pub mod text_plane;

@@ -21,7 +21,7 @@ use Rattle.cell_tests.specs.Readings.{refuse}
 use Rattle.cell_tests.specs.SheetCells.{width_of, region_at, column_is}
 use Rattle.allowed.specs.Allowed.{allowed_of}
 use Rattle.clauses.specs.Readings.{along}
-use Rattle.clauses.specs.declared.Place.{Place}
+use Rattle.cells.specs.declared.place.Place.{Place}
 use Rattle.clauses.specs.Clauses.{main_of, outputs_end, present, OutputTexts, NoteTexts, Found, text_at, optional_at, entries_of, one_output, many_outputs, outputs_of, notes_of, found_from}
 use Rattle.passes.specs.Passes.{fine, fine_row, fine_rows}
 use Rattle.layouts.specs.Layouts.{one_layout, named_layout, labelled_layout, many_layout, layout_of}

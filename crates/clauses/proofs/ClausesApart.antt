@@ -7,7 +7,7 @@ use lib.ListN.{length}
 use Rattle.lists.specs.Answer.{◌>>=◌}
 use Rattle.model.specs.declared.Cell.TheVariants.{MainDoubleCrossing, HorizontalDoubleCrossing}
 use Rattle.cells.specs.Plane.{Plane}
-use Rattle.clauses.specs.SheetCells.{place_of}
+use Rattle.cells.specs.Places.{place_of}
 use Rattle.clauses.specs.Clauses.{found_of}
 use Rattle.clauses.specs.Stated.{stated_by, clauses_of}
 use Rattle.clauses.specs.Shape.{shape_of, sizes_of, checked_shape}

@@ -19,7 +19,7 @@ use Rattle.cells.specs.Plane.{Plane}
 use Rattle.cell_tests.specs.Readings.{refuse}
 use Rattle.cell_tests.specs.SheetCells.{column_is}
 use Rattle.allowed.specs.Allowed.{allowed_of}
-use Rattle.clauses.specs.declared.Place.{Place}
+use Rattle.cells.specs.declared.place.Place.{Place}
 use Rattle.clauses.specs.Sizes.{differ, uneven, sized}
 use Rattle.clauses.specs.Clauses.{main_of, outputs_end}
 use Rattle.passes.specs.Passes.{fine, fine_row, fine_rows}

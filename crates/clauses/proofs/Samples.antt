@@ -19,7 +19,7 @@ use Rattle.cell_tests.specs.SheetCells.{region_at, column_is}
 use Rattle.allowed.specs.Apart.{meet_row, apart_from}
 use Rattle.allowed.specs.Allowed.{allowed_two, allowed_three, allowed_of}
 use Rattle.clauses.specs.Readings.{along}
-use Rattle.clauses.specs.SheetCells.{place_in_row, place_from}
+use Rattle.cells.specs.Places.{place_in_row, place_from}
 use Rattle.clauses.specs.Clauses.{text_at, optional_at, entries_of, one_output, many_outputs, outputs_of, notes_of, found_from}
 use Rattle.clauses.specs.Sizes.{uneven, sized}
 use Rattle.clauses.specs.Stated.{stated_by, clauses_of, clause_texts}

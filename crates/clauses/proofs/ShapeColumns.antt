@@ -15,8 +15,8 @@ use Rattle.cell_tests.specs.Readings.{refuse}
 use Rattle.cell_tests.specs.SheetCells.{width_of}
 use Rattle.allowed.specs.Allowed.{allowed_of}
 use Rattle.clauses.specs.Clauses.{main_of, outputs_end}
-use Rattle.clauses.specs.declared.Place.{Place}
-use Rattle.clauses.specs.SheetCells.{place_of}
+use Rattle.cells.specs.declared.place.Place.{Place}
+use Rattle.cells.specs.Places.{place_of}
 use Rattle.passes.specs.Passes.{fine_row, fine_rows}
 use Rattle.layouts.specs.Layouts.{layout_of}
 use Rattle.clauses.specs.Shape.{notes_at, inputs_fine, clauses_at, shape_of, sizes_of, checked_shape}

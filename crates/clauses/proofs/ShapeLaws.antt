@@ -19,8 +19,8 @@ use Rattle.passes.specs.Passes.{fine_row, fine_rows}
 use Rattle.layouts.specs.Layouts.{layout_of}
 use Rattle.layouts.specs.declared.Layout.{Layout}
 use Rattle.clauses.specs.Clauses.{outputs_end}
-use Rattle.clauses.specs.declared.Place.{Place}
-use Rattle.clauses.specs.SheetCells.{place_of}
+use Rattle.cells.specs.declared.place.Place.{Place}
+use Rattle.cells.specs.Places.{place_of}
 use Rattle.clauses.specs.Shape.{notes_at, inputs_fine, clauses_at, shape_of, sizes_of, checked_shape}
 use Rattle.clauses.specs.Sizes.{differ}
 use Rattle.clauses.specs.Told.{ShapeFits}

@@ -22,7 +22,7 @@ use Rattle.cells.specs.Plane.{Plane}
 use Rattle.record.specs.Policy.{Text, input, output, rule, Entries}
 use Rattle.record.specs.Record.{input_texts, output_texts, rule_texts}
 use Rattle.cell_tests.specs.Readings.{refuse}
-use Rattle.clauses.specs.SheetCells.{place_of}
+use Rattle.cells.specs.Places.{place_of}
 use Rattle.clauses.specs.Sizes.{differ}
 use Rattle.clauses.specs.Stated.{allowed_text, default_text, input_of, output_of, rule_of, stated_by, clauses_of, clause_texts}
 use Rattle.clauses.specs.Shape.{shape_of, sizes_of, checked_shape}

@@ -12,8 +12,8 @@ use Rattle.cell_tests.specs.Readings.{refuse}
 use Rattle.cell_tests.specs.SheetCells.{width_of, region_at}
 use Rattle.allowed.specs.Allowed.{allowed_of}
 use Rattle.clauses.specs.Readings.{along}
-use Rattle.clauses.specs.declared.Place.{Place}
-use Rattle.clauses.specs.SheetCells.{place_of}
+use Rattle.cells.specs.declared.place.Place.{Place}
+use Rattle.cells.specs.Places.{place_of}
 
 -- the main crossing, or 9
 abbrev pub main_of : Option Place → Reading Place

@@ -1,5 +1,4 @@
 pub mod Readings
-pub mod SheetCells
 pub mod Clauses
 pub mod Sizes
 pub mod Stated

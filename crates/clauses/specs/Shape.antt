@@ -13,8 +13,8 @@ use Rattle.allowed.specs.Allowed.{allowed_of}
 use Rattle.passes.specs.Passes.{fine_row, fine_rows}
 use Rattle.layouts.specs.Layouts.{layout_of}
 use Rattle.clauses.specs.Clauses.{main_of, outputs_end}
-use Rattle.clauses.specs.declared.Place.{Place}
-use Rattle.clauses.specs.SheetCells.{place_of}
+use Rattle.cells.specs.declared.place.Place.{Place}
+use Rattle.cells.specs.Places.{place_of}
 use Rattle.clauses.specs.Sizes.{differ}
 use Rattle.clauses.specs.declared.Notes.{Notes}
 use Rattle.clauses.specs.declared.Shape.{Shape}

@@ -2,14 +2,9 @@
 use Rattle.std.specs.Prelude.{◌≡◌, ℕ, ◌+◌, ◌≤◌, ◌<◌, Option, None, Some, Ok, Err}
 use Rattle.model.specs.Limits.{plane_cells}
 use Rattle.model.specs.Refusals.{Reading}
-use Rattle.clauses.specs.declared.Place.{Place}
+use Rattle.cells.specs.declared.place.Place.{Place}
 use Rattle.clauses.specs.declared.Notes.{Notes}
 use Rattle.clauses.specs.declared.Shape.{Shape}
-
--- a place of a sheet of so many rows, at most 64 of them, and of 64 columns
-abbrev pub SpotWithin : Option Place → ℕ → Type 0
-SpotWithin (Some p) rows = (p.row < rows) × (p.col < plane_cells)
-SpotWithin None rows = Unit {0}
 
 -- a place in column c
 abbrev pub SpotInColumn : Option Place → ℕ → ℕ → Type 0

@@ -3,52 +3,17 @@
 
 ghost use Rattle.std.specs.Prelude.{◌≡◌, ◌+◌, ◌≤◌, ◌<◌};
 ghost use Rattle.model.specs.Limits.{plane_rows, plane_cells};
-ghost use Rattle.cells.specs.Plane.{row_in};
+ghost use Rattle.cells.specs.Places.{SpotWithin};
 ghost use Rattle.cells.specs.Slices.{plane_of};
 ghost use Rattle.cell_tests.specs.SheetCells.{width_of};
-ghost use Rattle.clauses.specs.SheetCells.{place_in_row, place_of};
 ghost use Rattle.clauses.specs.Clauses.{outputs_end};
 ghost use Rattle.clauses.specs.Shape.{notes_at, inputs_fine, clauses_at, shape_of, sizes_of, checked_shape};
-ghost use Rattle.clauses.specs.Told.{SpotWithin, SpotInColumn, NotesFit, ShapeFits, ShapedFits};
+ghost use Rattle.clauses.specs.Told.{SpotInColumn, NotesFit, ShapeFits, ShapedFits};
 
+use cells::place::Place;
 use cells::plane::Plane;
 use layouts::Layout;
 use model::{Cell, Refusal};
-
-// A row and a column of a plane; a `Point` is a column and a row of a picture.
-#[derive(Clone, Copy)]
-pub struct Place {
-    pub row: usize,
-    pub col: usize,
-}
-
-// The first cell of a kind in row y.
-fn spot_in_row(plane: Plane, y: usize, kind: Cell) -> Option<Place>
-    requires { y < plane.rows }
-    ensures spot { result ≡ place_in_row kind y 0 (row_in plane.entry.cells.now y) }
-    ensures within { SpotWithin result (y + 1) }
-{
-    for x in 0..plane.width(y) {
-        if kind.is_same_kind(plane.cell(y, x)) {
-            return Some(Place { row: y, col: x });
-        }
-    }
-    None
-}
-
-// The first cell of a kind, row by row.
-fn spot_of(plane: Plane, kind: Cell) -> Option<Place>
-    ensures spot { result ≡ place_of kind (plane_of plane.entry) }
-    ensures within { SpotWithin result plane.entry.rows }
-{
-    for y in 0..plane.rows {
-        let spot = spot_in_row(plane, y, kind);
-        if spot.is_some() {
-            return spot;
-        }
-    }
-    None
-}
 
 // How many annotations there are, and the column and the row where their entries start.
 #[derive(Clone, Copy)]
@@ -201,8 +166,8 @@ pub fn checked_shape(plane: Plane, rules: u64) -> Result<Shape, Refusal>
     ensures shape { result ≡ checked_shape (plane_of plane.entry) rules }
     ensures fits { ShapedFits result plane.entry.rows rules }
 {
-    let main = spot_of(plane, Cell::MainDoubleCrossing);
-    let notes = spot_of(plane, Cell::HorizontalDoubleCrossing);
+    let main = plane.spot_of(Cell::MainDoubleCrossing);
+    let notes = plane.spot_of(Cell::HorizontalDoubleCrossing);
     let s = shape_of(plane, main, notes)?;
     pass_sizes(plane.rows, s, rules)?;
     Ok(s)

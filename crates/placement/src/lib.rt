@@ -6,7 +6,7 @@ ghost use Rattle.cells.specs.Held.{Numbered};
 ghost use Rattle.cells.specs.Plane.{row_in};
 ghost use Rattle.cells.specs.Slices.{plane_of, text_of};
 ghost use Rattle.placement.specs.Placement.{policy_in, corner_policy, bottom_left, placement_of};
-ghost use Rattle.placement.specs.Orientation.{holds_in, holds, as_rows, as_columns, as_cross_tab, oriented_by, oriented_of};
+ghost use Rattle.placement.specs.Orientation.{holds, as_rows, as_columns, as_cross_tab, oriented_by, oriented_of};
 
 use cells::plane::Plane;
 use cells::text_plane::TextPlane;
@@ -61,31 +61,11 @@ fn hit_policy_placement(sheet: TextPlane) -> Result<HitPolicyPlacement, Refusal>
     }
 }
 
-// `clauses` searches for the place of a cell: here none is told, and one search for both would want a law that ties the
-// two definitions.
-// Whether a cell of a kind stands in a row.
-fn holds_in(plane: Plane, row: usize, kind: Cell) -> bool
-    requires { row < plane.rows }
-    ensures { result ≡ holds_in kind (row_in plane.entry.cells.now row) }
-{
-    for i in 0..plane.width(row) {
-        if kind.is_same_kind(plane.cell(row, i)) {
-            return true;
-        }
-    }
-    false
-}
-
-// Whether one stands in a plane.
+// Whether a cell of a kind stands in a plane.
 fn holds(plane: Plane, kind: Cell) -> bool
     ensures { result ≡ holds kind (plane_of plane.entry) }
 {
-    for row in 0..plane.rows {
-        if holds_in(plane, row, kind) {
-            return true;
-        }
-    }
-    false
+    plane.spot_of(kind).is_some()
 }
 
 // Which way a sheet is laid out, its hit policy, and how many rules it has.

@@ -36,8 +36,8 @@ use Rattle.allowed.specs.Allowed.{allowed_two, allowed_three, allowed_of}
 use Rattle.allowed.specs.Apart.{Met, twice, once, meet_row, on_met, apart_from, all_apart}
 use Rattle.clauses.specs.Clauses.{Found, main_of, outputs_end, text_at, optional_at, entries_of, one_output, many_outputs, outputs_of, notes_of, found_from, found_of}
 use Rattle.clauses.specs.Readings.{along}
-use Rattle.clauses.specs.declared.Place.{Place}
-use Rattle.clauses.specs.SheetCells.{place_of}
+use Rattle.cells.specs.declared.place.Place.{Place}
+use Rattle.cells.specs.Places.{place_of}
 use Rattle.clauses.specs.Sizes.{differ, uneven, sized}
 use Rattle.clauses.specs.Stated.{clauses_of}
 use Rattle.recognizer.specs.StatedPolicy.{sheet_policy, stated_policy}

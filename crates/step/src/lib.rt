@@ -139,6 +139,7 @@ fn add_grid_row(
     add_frames(n, y, plane, s)
 }
 
+// The writer is made by the caller: tried here, and what its slice holds behind the loop was not proved.
 // The plane of GRID, whose frames are numbered.
 fn add_grid_rows(n: NumberedGrid, plane: &mut PlaneWriter) -> Result<(), Refusal>
     requires { plane.old.rows ≡ 0 }

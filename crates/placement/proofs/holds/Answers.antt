@@ -1,18 +1,9 @@
 -- `placement::holds` meets its contract.
-use mathlib.Core.Path.{sym, ◌∙◌}
-use Rattle.placement.proofs.HoldsLaws.{plane-holds, seek_start, seek_found, seek_on, seek_end}
-use borrow.Author.Rules.{rules}
+use mathlib.Core.Path.{ap, ◌∙◌}
+use Rattle.std.specs.Option.{is_some}
+use Rattle.cells.specs.Slices.{plane_of}
+use Rattle.placement.proofs.HoldsLaws.{in_plane}
 use Rattle.placement.proofs.holds.Goals as goal
 
-pub loop-row-init : goal.loop-row-init
-loop-row-init c = seek_start _ _ _
-
-pub returns-then-holds_in : goal.returns-then-holds_in
-returns-then-holds_in c =
-    seek_found c.loop-row.invariant (search rules) (sym c.holds_in.ensures ∙ c.if-holds_in.true) ∙ plane-holds _ _ _
-
-pub loop-row-preserved : goal.loop-row-preserved
-loop-row-preserved c = seek_on c.loop-row.invariant (search rules) (sym c.holds_in.ensures ∙ c.if-holds_in.false)
-
 pub returns : goal.returns
-returns c = seek_end c.loop-row.invariant c.loop-row-test.false ∙ plane-holds _ _ _
+returns c = c.is_some.ensures ∙ ap is_some c.spot_of.ensures.spot ∙ in_plane c.args.kind 0 (plane_of c.args.plane)

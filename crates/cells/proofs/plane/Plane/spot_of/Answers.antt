@@ -1,8 +1,8 @@
--- `clauses::spot_of` meets its contract.
+-- `cells::plane::Plane::spot_of` meets its contract.
 use mathlib.Core.Path.{sym}
 use native.Mathlib.Omega.{arith}
-use Rattle.clauses.proofs.SpotLaws.{rows_start, rows_end, rows-found, rows_next, spot_is, spot_not}
-use Rattle.clauses.proofs.spot_of.Goals as goal
+use Rattle.cells.proofs.SpotLaws.{rows_start, rows_end, rows-found, rows_next, spot_is, spot_not}
+use Rattle.cells.proofs.plane.Plane.spot_of.Goals as goal
 
 pub loop-y-init : goal.loop-y-init
 loop-y-init c = rows_start _ _ _
