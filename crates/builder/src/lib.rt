@@ -1,4 +1,6 @@
 // The whole reader, from the bytes of a sheet to its record.
+// The work slices stand side by side, as C lends them: of a struct of them each function that hands it on would have to say that it
+// still lends the same ones, which of parameters is known.
 #![tactic(auto)]
 
 ghost use Rattle.std.specs.Prelude.{[], ◌∷◌, ◌≡◌};

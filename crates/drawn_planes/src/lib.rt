@@ -1,4 +1,4 @@
-// The plane of a drawing.
+// The plane of a drawing. The work slices stand side by side, as `builder` says.
 #![tactic(auto)]
 
 ghost use Rattle.std.specs.Prelude.{◌≡◌};
@@ -7,8 +7,7 @@ ghost use Rattle.drawn_planes.specs.DrawnTable.{named_plane, drawn_in, DrawnHeld
 use model::Refusal;
 use model::layer::Layer;
 
-// So many rows of a plane, with so many regions, and whether the first of these is the name's.
-// That is a fact of the drawing: no value hangs on it.
+// So many rows of a plane, with so many regions, and whether the first of these is the name's: its text stands among theirs, as `tables` says.
 #[derive(Clone, Copy)]
 pub struct DrawnRows {
     pub rows: usize,

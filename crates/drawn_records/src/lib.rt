@@ -1,11 +1,11 @@
-// The record of a drawing. The work slices are left as they come: the entry clears them.
+// The record of a drawing. The work slices are left as they come: the entry clears them. They stand side by side, as `builder` says.
 #![tactic(auto)]
 
-ghost use Rattle.std.specs.Prelude.{◌≡◌, ◌*◌, ◌≤◌, length, take};
+ghost use Rattle.std.specs.Prelude.{Ok, ◌≡◌, ◌*◌, ◌≤◌, length, take};
 ghost use Rattle.model.specs.Limits.{plane_size, text_bytes};
 ghost use Rattle.record.specs.Slots.{slot_limit};
 ghost use Rattle.recognizer.specs.Told.{table_read};
-ghost use Rattle.tables.specs.NamedTable.{named_table, AnswerHeld};
+ghost use Rattle.tables.specs.NamedTable.{named_table, AnswerHeld, NamedHeld};
 ghost use Rattle.policies.specs.DrawnPolicy.{walked_policy};
 ghost use Rattle.records.specs.Outcomes.{outcome_of, record_of};
 ghost use Rattle.drawn_planes.specs.DrawnTable.{named_policy, drawn_in, DrawnHeld, DrawnRoom};
@@ -26,20 +26,19 @@ fn texts_in(bytes: &[u8]) -> &[u8]
     &bytes[0..TEXT_BYTES]
 }
 
-// The table of a plane that is drawn, or why there is none.
+// The table of a plane that is drawn.
 fn table_of(
-    d: Result<DrawnRows, Refusal>,
+    d: DrawnRows,
     plane: &[u32],
     bytes: &[u8],
     spans: &[u32],
     upright: &mut [u32],
     slots: &mut [u32],
 ) -> Result<SlotTable, Refusal>
-    requires { DrawnHeld d plane.now bytes.now spans.now × (text_bytes ≤ length bytes.now) × (plane_size ≤ length upright.old) × (3 * slot_limit ≤ length slots.old) }
-    ensures table { named_table result (take text_bytes bytes.now) slots.new ≡ table_read (named_policy (drawn_in d plane.now bytes.now spans.now)) }
+    requires { DrawnHeld (Ok d) plane.now bytes.now spans.now × (text_bytes ≤ length bytes.now) × (plane_size ≤ length upright.old) × (3 * slot_limit ≤ length slots.old) }
+    ensures table { named_table result (take text_bytes bytes.now) slots.new ≡ table_read (named_policy (drawn_in (Ok d) plane.now bytes.now spans.now)) }
     ensures held { AnswerHeld result (take text_bytes bytes.now) slots.new }
 {
-    let d = d?;
     let sheet = TextPlane {
         plane: Plane {
             cells: plane,
@@ -54,18 +53,13 @@ fn table_of(
     tables::plane_table(sheet, d.named, upright, slots)
 }
 
-// The record of a table whose texts lie in the first 61,440 bytes, or its refusal.
-fn write_drawn(
-    t: Result<SlotTable, Refusal>,
-    bytes: &[u8],
-    slots: &[u32],
-    out: &mut [u8],
-) -> Result<usize, Refusal>
-    requires { AnswerHeld t (take text_bytes bytes.now) slots.now × (text_bytes ≤ length bytes.now) × (3 * slot_limit ≤ length slots.now) }
-    ensures outcome { result ≡ outcome_of (named_table t (take text_bytes bytes.now) slots.now) (length out.old) }
-    ensures out { out.new ≡ record_of (named_table t (take text_bytes bytes.now) slots.now) out.old }
+// The record of a table whose texts lie in the first 61,440 bytes.
+fn write_drawn(t: SlotTable, bytes: &[u8], slots: &[u32], out: &mut [u8]) -> Result<usize, Refusal>
+    requires { NamedHeld t (take text_bytes bytes.now) slots.now × (text_bytes ≤ length bytes.now) × (3 * slot_limit ≤ length slots.now) }
+    ensures outcome { result ≡ outcome_of (named_table (Ok t) (take text_bytes bytes.now) slots.now) (length out.old) }
+    ensures out { out.new ≡ record_of (named_table (Ok t) (take text_bytes bytes.now) slots.now) out.old }
 {
-    records::write_recognized(t, texts_in(bytes), slots, out)
+    records::write_table(t, texts_in(bytes), slots, out)
 }
 
 // The record of a drawing. The plane lies where TEXT was. Once it is there neither the other layers nor what took their
@@ -84,7 +78,7 @@ pub fn sheet_record(
     ensures outcome { result ≡ outcome_of (table_read (walked_policy s.now)) (length out.old) }
     ensures out { out.new ≡ record_of (table_read (walked_policy s.now)) out.old }
 {
-    let d = drawn_planes::drawn_plane(s, text, thins, bodies, grid, bytes, spans);
-    let t = table_of(d, text, bytes, spans, bodies, thins);
+    let d = drawn_planes::drawn_plane(s, text, thins, bodies, grid, bytes, spans)?;
+    let t = table_of(d, text, bytes, spans, bodies, thins)?;
     write_drawn(t, bytes, thins, out)
 }

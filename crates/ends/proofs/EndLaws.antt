@@ -1,7 +1,7 @@
 -- The end of a call, from what it reads and what it clears.
 use Rattle.std.specs.Prelude.{Err, ℕ}
 use mathlib.Core.List.{List, [], ◌∷◌, map}
-use mathlib.Core.Path.{◌≡◌, refl}
+use mathlib.Core.Path.{◌≡◌, refl, sym, ◌∙◌}
 use Prim.Native.Nat.{ℕ}
 use lib.ListN.{length}
 use Rattle.lists.specs.Zeros.{zeros}
@@ -24,6 +24,12 @@ pub end_short : (sizes : List ℕ) (m : Reading Policy) (works : List (List ℕ)
     → end_of sizes m works out ≡ record { outcome = Err r; works = works; out = out }
 unfolding end_of
 end_short sizes m works out r e = rw (← e)
+
+-- as the code answers it: its refusal b is the room's, handed on as a
+pub end_refused : (sizes : List ℕ) (m : Reading Policy) (works : List (List ℕ)) (out : List ℕ) {r : Reading ℕ} {u : Reading (Unit {0})} {a b : Refusal}
+    → r ≡ Err a → a ≡ b → u ≡ Err b → u ≡ room_from 0 (map length works) sizes
+    → end_of sizes m works out ≡ record { outcome = r; works = works; out = out }
+end_refused sizes m works out {b = b} p q h e = rw (p, q) (end_short sizes m works out b (sym h ∙ e))
 
 -- cleared slices one behind the other, each as long as it was
 pub data Cleared : List (List ℕ) → List (List ℕ) → Type 0 where

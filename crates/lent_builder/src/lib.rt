@@ -1,4 +1,4 @@
-// The table from a lent plane: its record.
+// The table from a lent plane: its record. The work slices stand side by side, as `builder` says.
 #![tactic(auto)]
 
 ghost use Rattle.std.specs.Prelude.{[], ◌∷◌, ◌≡◌};

@@ -1,4 +1,4 @@
-// The record of a lent plane. The work slices are left as they come: the entry clears them.
+// The record of a lent plane. The work slices are left as they come: the entry clears them. They stand side by side, as `builder` says.
 #![tactic(auto)]
 
 ghost use Rattle.std.specs.Prelude.{◌≡◌, length};
@@ -53,6 +53,6 @@ pub fn lent_record(
     ensures outcome { result ≡ outcome_of (table_read (lent_policy (lists_of l.entry))) (length out.old) }
     ensures out { out.new ≡ record_of (table_read (lent_policy (lists_of l.entry))) out.old }
 {
-    let t = lent_table(l, plane, spans, upright, slots);
-    records::write_recognized(t, l.bytes, slots, out)
+    let t = lent_table(l, plane, spans, upright, slots)?;
+    records::write_table(t, l.bytes, slots, out)
 }

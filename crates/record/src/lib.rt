@@ -1,5 +1,6 @@
 // The table record, written to a slice: its header and its slots.
 // The record's slice is lent by the caller, in C too, and what lies behind the record stays: a slice with a place, and no vector.
+// No writer either: a text is written at two places, its slot's and its own, and the first of them is told by the slot's number.
 #![tactic(auto)]
 
 ghost use Rattle.std.specs.Prelude.{[], ◌∷◌, ◌++◌, ◌≡◌, ◌+◌, ◌*◌, ◌<◌, ◌≤◌, ◌^◌, length};
@@ -9,7 +10,8 @@ ghost use Rattle.record.specs.Written.{begun_of, headed};
 
 use model::Refusal;
 
-// A slot's kinds in a work slice: numbers, since the slice is the caller's and its size is fixed.
+// A slot's kinds in a work slice: numbers, since the slice is the caller's and its size is fixed. An enum beside them is no plainer:
+// `slot_runs` and `tables` would only turn it into its number, and each of the two who read a kind makes one test of it.
 pub const ABSENT: u32 = 0;
 
 pub const PART: u32 = 1;
@@ -30,10 +32,8 @@ fn put_word(out: &mut [u8], at: usize, w: u32)
     requires { at + 4 ≤ length out.old }
     ensures { out.new ≡ put out.old at (word w) }
 {
-    out[at] = (w % 256) as u8;
-    out[at + 1] = (w / 256 % 256) as u8;
-    out[at + 2] = (w / 65536 % 256) as u8;
-    out[at + 3] = (w / 16777216 % 256) as u8;
+    let bytes = w.to_le_bytes();
+    lists::put_bytes(out, at, &bytes);
 }
 
 // The words ws, from index at on.

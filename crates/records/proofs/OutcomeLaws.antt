@@ -7,7 +7,7 @@ use native.Mathlib.Omega.{arith}
 use lib.ListN.{length}
 use Rattle.model.specs.Policies.{policy_number, orientation_number}
 use Rattle.model.specs.Refusals.{Reading}
-use Rattle.record.specs.Record.{total}
+use Rattle.record.specs.Record.{Table, total}
 use Rattle.record.specs.Slots.{slot_limit}
 use Rattle.record.specs.Written.{begun_of}
 use Rattle.record.specs.declared.Head.{Head}
@@ -31,6 +31,11 @@ head_record bytes d out e = rw (e.policy, e.orientation, e.inputs, e.outputs, e.
 pub head_total : {t : SlotTable} {x : Head} (bytes d : List ℕ) (n : ℕ) (b : Reading ℕ) → Heads x t → b ≡ begun_of n (total (table_from x bytes d t.slots))
     → b ≡ outcome_of (named_table (Ok t) bytes d) n
 head_total {t} {x} bytes d n b e q = q ∙ rw (e.inputs, e.outputs, e.annotations, e.rules)
+
+-- a reading's record under another name of the reading
+pub read_as : {m n : Reading Table} {r : Reading ℕ} {o : List ℕ} (out : List ℕ) → m ≡ n → r ≡ outcome_of m (length out) → o ≡ record_of m out
+    → (r ≡ outcome_of n (length out)) × (o ≡ record_of n out)
+read_as out e a b = rw (← e) (a, b)
 
 pub slots-held : {t : SlotTable} {bytes d : List ℕ} (x : Head) → NamedHeld t bytes d → 3 * slot_limit ≤ length d
     → Heads x t → SlotsHeld x bytes d t.slots t.bytes

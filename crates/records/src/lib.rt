@@ -1,9 +1,9 @@
-// The record of a table that is read, or why there is none.
+// The record of a table that is read.
 #![tactic(auto)]
 
 ghost use Rattle.std.specs.Prelude.{◌≡◌, ◌*◌, ◌≤◌, length};
 ghost use Rattle.record.specs.Slots.{slot_limit};
-ghost use Rattle.tables.specs.NamedTable.{named_table, AnswerHeld, NamedHeld};
+ghost use Rattle.tables.specs.NamedTable.{named_table, NamedHeld};
 ghost use Rattle.records.specs.Outcomes.{outcome_of, record_of};
 
 use model::Refusal;
@@ -11,7 +11,13 @@ use recognizer::SlotTable;
 use record::Head;
 
 // The record of a table whose texts stand in slots.
-fn write_table(t: SlotTable, bytes: &[u8], slots: &[u32], out: &mut [u8]) -> Result<usize, Refusal>
+// No `From<SlotTable>` for `Head`: the numbers fit a `u32` by what is asked here, and a conversion asks nothing.
+pub fn write_table(
+    t: SlotTable,
+    bytes: &[u8],
+    slots: &[u32],
+    out: &mut [u8],
+) -> Result<usize, Refusal>
     requires { NamedHeld t bytes.now slots.now × (3 * slot_limit ≤ length slots.now) }
     ensures outcome { result ≡ outcome_of (named_table (Ok t) bytes.now slots.now) (length out.old) }
     ensures out { out.new ≡ record_of (named_table (Ok t) bytes.now slots.now) out.old }
@@ -27,19 +33,4 @@ fn write_table(t: SlotTable, bytes: &[u8], slots: &[u32], out: &mut [u8]) -> Res
         rules: t.rules as u32,
     };
     writer::write_record(bytes, slots, t.slots, t.bytes, head, out)
-}
-
-// The record of a table that stands, or its refusal.
-pub fn write_recognized(
-    a: Result<SlotTable, Refusal>,
-    bytes: &[u8],
-    slots: &[u32],
-    out: &mut [u8],
-) -> Result<usize, Refusal>
-    requires { AnswerHeld a bytes.now slots.now × (3 * slot_limit ≤ length slots.now) }
-    ensures outcome { result ≡ outcome_of (named_table a bytes.now slots.now) (length out.old) }
-    ensures out { out.new ≡ record_of (named_table a bytes.now slots.now) out.old }
-{
-    let t = a?;
-    write_table(t, bytes, slots, out)
 }

@@ -30,7 +30,7 @@ pub struct Part {
     pub size: u32,
 }
 
-// The numbers of a slot.
+// The numbers of a slot: its kind is one of them, as `record` says.
 pub fn put_slot(slots: &mut [u32], at: usize, kind: u32, offset: u32, size: u32)
     requires { (3 * at + 3 ≤ length slots.old) × (at < slot_limit) }
     ensures { SlotPut slots.old slots.new at kind offset size }

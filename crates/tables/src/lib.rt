@@ -15,7 +15,8 @@ use model::Refusal;
 use recognizer::SlotTable;
 use record::{ABSENT, PART};
 
-// `named` is a fact of the drawing.
+// `named`: the first region's text is the name. It stands in `texts`, named or not, so that an `Option` of its part would say it twice
+// and ask that both agree.
 // The name's slot: the first region's text, or none. Answers the name's bytes.
 fn put_name(texts: Texts, slots: &mut [u32], named: bool) -> usize
     requires { NameIn named texts.count × (3 ≤ length slots.old) }

@@ -19,27 +19,6 @@ sheet_record-r-requires c =
     let a = c.args in
     sheet-room a.text.now a.thins.now a.bodies.now a.grid.now a.spans.now a.bytes.now c.requires
 
-pub shape_of-text : goal.shape_of-text
-shape_of-text c = c.clear_four.auto.a ∙ c.sheet_record-r.auto.text
-
-pub shape_of-thins : goal.shape_of-thins
-shape_of-thins c = c.clear_four.auto.b ∙ c.sheet_record-r.auto.thins
-
-pub shape_of-bodies : goal.shape_of-bodies
-shape_of-bodies c = c.clear_four.auto.c ∙ c.sheet_record-r.auto.bodies
-
-pub shape_of-grid : goal.shape_of-grid
-shape_of-grid c = c.clear_four.auto.d ∙ c.sheet_record-r.auto.grid
-
-pub shape_of-spans : goal.shape_of-spans
-shape_of-spans c = c.fill.auto.s ∙ c.sheet_record-r.auto.spans
-
-pub shape_of-bytes : goal.shape_of-bytes
-shape_of-bytes c = c.fill-2.auto.s ∙ c.sheet_record-r.auto.bytes
-
-pub shape_of-out : goal.shape_of-out
-shape_of-out c = c.sheet_record-r.auto.out
-
 pub returns : goal.returns
 returns c =
     let e = end_cleared sheet_sizes (walked_policy c.args.s.now) (c.args.text.now ∷ c.args.thins.now ∷ c.args.bodies.now ∷ c.args.grid.now ∷ c.args.spans.now ∷ c.args.bytes.now ∷ []) (c.clear_four.new.a ∷ c.clear_four.new.b ∷ c.clear_four.new.c ∷ c.clear_four.new.d ∷ c.fill.new.s ∷ c.fill-2.new.s ∷ []) c.args.out.now c.sheet_record-r.new.out c.sheet_record-r.result c.requires c.sheet_record-r.ensures.outcome c.sheet_record-r.ensures.out (cleared_all (gone c)) in

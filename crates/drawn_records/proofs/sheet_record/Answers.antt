@@ -1,54 +1,62 @@
 -- `drawn_records::sheet_record` meets its contract.
-use mathlib.Core.Path.{sym, ap, ◌∙◌}
-use lib.ListN.{length}
+use Rattle.std.proofs.lemmas.Result.{err_from_is_err_and}
+use Rattle.std.specs.Prelude.{Ok}
+use mathlib.Core.Path.{◌≡◌, refl, sym, ap, ◌∙◌}
+use lib.ListN.{take}
 use native.Mathlib.Omega.{arith}
+use Rattle.model.specs.Limits.{text_bytes}
 use Rattle.model.specs.Refusals.{Reading}
-use Rattle.record.specs.Record.{Table}
 use Rattle.recognizer.specs.Told.{table_read}
-use Rattle.records.specs.Outcomes.{outcome_of, record_of}
-use Rattle.drawn_planes.specs.DrawnTable.{named_policy}
+use Rattle.recognizer.specs.declared.SlotTable.{SlotTable}
+use Rattle.tables.specs.NamedTable.{named_table}
+use Rattle.policies.specs.DrawnPolicy.{walked_policy}
+use Rattle.records.proofs.OutcomeLaws.{read_as}
+use Rattle.drawn_planes.specs.DrawnTable.{named_policy, drawn_in}
+use Rattle.drawn_planes.specs.declared.DrawnRows.{DrawnRows}
 use Rattle.drawn_planes.proofs.DrawnTableLaws.{first-region}
 use Rattle.drawn_records.proofs.sheet_record.Goals as goal
+use Rattle.drawn_records.proofs.sheet_record.Goals.{After-drawn_plane, After-table_of}
 
-pub drawn_plane-d-requires : goal.drawn_plane-d-requires
-drawn_plane-d-requires c = c.requires
+-- the policy that is drawn, as the plane's numbers tell it
+told : (c : After-drawn_plane) {d : Reading DrawnRows} → c.drawn_plane.result ≡ d
+    → table_read (named_policy (drawn_in d c.drawn_plane.new.text c.drawn_plane.new.bytes c.drawn_plane.new.spans)) ≡ table_read (walked_policy c.args.s.now)
+told c e = ap table_read (ap named_policy (rw e at c.drawn_plane.ensures.plane) ∙ sym (first-region c.args.s.now))
 
-pub table_of-t-requires : goal.table_of-t-requires
-table_of-t-requires c =
+-- and as its table's numbers do
+told_table : (c : After-table_of) {t : Reading SlotTable} → c.table_of.result ≡ t
+    → table_read (named_policy (drawn_in (Ok c.in_ok-d.d) c.drawn_plane.new.text c.drawn_plane.new.bytes c.drawn_plane.new.spans)) ≡ table_read (walked_policy c.args.s.now)
+    → named_table t (take text_bytes c.drawn_plane.new.bytes) c.table_of.new.slots ≡ table_read (walked_policy c.args.s.now)
+told_table c e d = (rw e at c.table_of.ensures.table) ∙ d
+
+pub drawn_plane-requires : goal.drawn_plane-requires
+drawn_plane-requires c = c.requires
+
+pub table_of-requires : goal.table_of-requires
+table_of-requires c =
     let p = c.requires in
-    let l = c.drawn_plane-d.auto in
-    (c.drawn_plane-d.ensures.held, omega (arith, p.all_texts, l.bytes), omega (arith, p.layers.body, l.bodies), omega (arith, p.layers.thin, l.thins))
+    let l = c.drawn_plane.auto in
+    (rw c.in_ok-d.was at c.drawn_plane.ensures.held, omega (arith, p.all_texts, l.bytes), omega (arith, p.layers.body, l.bodies), omega (arith, p.layers.thin, l.thins))
 
 pub write_drawn-requires : goal.write_drawn-requires
 write_drawn-requires c =
     let p = c.requires in
-    let l = c.drawn_plane-d.auto in
-    (c.table_of-t.ensures.held, omega (arith, p.all_texts, l.bytes), omega (arith, p.layers.thin, l.thins, c.table_of-t.auto.slots))
+    let l = c.drawn_plane.auto in
+    (rw c.in_ok-t.was at c.table_of.ensures.held, omega (arith, p.all_texts, l.bytes), omega (arith, p.layers.thin, l.thins, c.table_of.auto.slots))
 
-pub shape_of-text : goal.shape_of-text
-shape_of-text c = c.drawn_plane-d.auto.text
+pub returns-in_err-d : goal.returns-in_err-d
+returns-in_err-d c =
+    let p = err_from_is_err_and c.from_residual.result c.from_residual.ensures.1 in
+    let r = read_as c.args.out.now (told (goal.at.returns-in_err-d c).After-drawn_plane c.in_err-d.was) (p.1 ∙ rw p.2) refl in
+    record { outcome = r.0; out = r.1 }
 
-pub shape_of-thins : goal.shape_of-thins
-shape_of-thins c = c.table_of-t.auto.slots ∙ c.drawn_plane-d.auto.thins
-
-pub shape_of-bodies : goal.shape_of-bodies
-shape_of-bodies c = c.table_of-t.auto.upright ∙ c.drawn_plane-d.auto.bodies
-
-pub shape_of-grid : goal.shape_of-grid
-shape_of-grid c = c.drawn_plane-d.auto.grid
-
-pub shape_of-spans : goal.shape_of-spans
-shape_of-spans c = c.drawn_plane-d.auto.spans
-
-pub shape_of-bytes : goal.shape_of-bytes
-shape_of-bytes c = c.drawn_plane-d.auto.bytes
-
-pub shape_of-out : goal.shape_of-out
-shape_of-out c = c.write_drawn.auto.out
+pub returns-in_err-t : goal.returns-in_err-t
+returns-in_err-t c =
+    let p = err_from_is_err_and c.from_residual-in_err-t.result c.from_residual-in_err-t.ensures.1 in
+    let r = read_as c.args.out.now (told_table (goal.at.returns-in_err-t c).After-table_of c.in_err-t.was (told (goal.at.returns-in_err-t c).After-drawn_plane c.in_ok-d.was)) (p.1 ∙ rw p.2) refl in
+    record { outcome = r.0; out = r.1 }
 
 pub returns : goal.returns
 returns c =
     let w = c.write_drawn.ensures in
-    let s = c.args in
-    let e = c.table_of-t.ensures.table ∙ ap table_read (ap named_policy c.drawn_plane-d.ensures.plane ∙ sym (first-region s.s.now)) in
-    record { outcome = w.outcome ∙ ap (λ (m : Reading Table). outcome_of m (length s.out.now)) e; out = w.out ∙ ap (λ (m : Reading Table). record_of m s.out.now) e }
+    let r = read_as c.args.out.now (told_table (goal.at.returns c).After-table_of c.in_ok-t.was (told (goal.at.returns c).After-drawn_plane c.in_ok-d.was)) w.outcome w.out in
+    record { outcome = r.0; out = r.1 }

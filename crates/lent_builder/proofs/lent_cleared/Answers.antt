@@ -2,7 +2,6 @@
 use mathlib.Core.List.{[], ◌∷◌}
 use mathlib.Core.Path.{◌∙◌}
 use Rattle.lent.specs.Lent.{lists_of}
-use Rattle.lent.specs.LentPlane.{LentPlane}
 use Rattle.policies.specs.LentPolicy.{lent_policy}
 use Rattle.lent_builder.specs.LentEnd.{lent_sizes}
 use Rattle.ends.proofs.EndLaws.{Cleared, none, one, cleared_all, zeros-same, end_cleared}

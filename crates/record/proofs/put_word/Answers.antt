@@ -1,17 +1,7 @@
 -- `record::put_word` meets its contract.
-use native.Mathlib.Omega.{arith}
-use lib.ListN.{length-set}
-use Rattle.lists.proofs.PutLaws.{put_four}
+use mathlib.Core.Path.{ap, ◌∙◌}
+use Rattle.lists.specs.Put.{put}
 use Rattle.record.proofs.put_word.Goals as goal
 
-pub bounds-out-at-2 : goal.bounds-out-at-2
-bounds-out-at-2 c = simp length-set (omega arith)
-
-pub bounds-out-at-3 : goal.bounds-out-at-3
-bounds-out-at-3 c = simp length-set (omega arith)
-
-pub bounds-out-at-4 : goal.bounds-out-at-4
-bounds-out-at-4 c = simp length-set (omega arith)
-
 pub returns : goal.returns
-returns c = put_four _ _ _ _ _ _ c.requires
+returns c = c.put_bytes.ensures ∙ ap (put c.args.out.now c.args.at) c.to_le_bytes-bytes.ensures

@@ -1,5 +1,4 @@
 -- `record::put_words` meets its contract.
-use Prim.Native.Nat.{◌-◌}
 use native.Mathlib.Omega.{arith}
 use Rattle.record.proofs.Steps.{words-start, words-next, words_end}
 use Rattle.record.proofs.put_words.Goals as goal

@@ -1,5 +1,3 @@
-use Prim.Native.Nat.{◌-◌}
-use lib.ListN.{length}
 use Rattle.record.proofs.Steps.{WordsTo}
 use Rattle.record.proofs.put_words.Given as goal
 

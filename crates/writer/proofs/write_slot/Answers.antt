@@ -9,6 +9,9 @@ bounds-slots-at c = omega (arith, c.requires.held.one, c.args.texts.parts.room)
 pub write_values-requires : goal.write_values-requires
 write_values-requires c = record { held = (c.requires.held, c.if-slots-at-gt-PART.true); fits = c.requires.fits }
 
+pub returns-then-slots-at-gt-PART : goal.returns-then-slots-at-gt-PART
+returns-then-slots-at-gt-PART c = record { end = c.write_values.ensures.value; out_after = c.write_values.ensures.out_after }
+
 pub put_part-requires : goal.put_part-requires
 put_part-requires c =
     let k = c.if-slots-at-gt-PART.false in
