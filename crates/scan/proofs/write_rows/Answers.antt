@@ -40,12 +40,6 @@ loop-r-preserved c =
       writing_more i.1 (row (goal.at.loop-r-preserved c).In-loop-r) c.put_row.ensures.body k.body,
     )
 
-pub shape_of-text : goal.shape_of-text
-shape_of-text c = c.loop-r.invariant.0.long
-
-pub shape_of-body : goal.shape_of-body
-shape_of-body c = c.loop-r.invariant.1.long
-
 pub returns : goal.returns
 returns c =
     let i = c.loop-r.invariant in

@@ -1,6 +1,5 @@
 -- `sheet_rows::measure` meets its contract.
 use mathlib.Core.Path.{refl}
-use native.Mathlib.Omega.{arith}
 use Rattle.sheet_rows.proofs.Measuring.{measuring_start, measuring_none, measuring_more, measuring_last, measuring_end, valid_more}
 use Rattle.sheet_rows.proofs.Keeping.{keeping_start, keeping_none, keeping_long, keeping_more, keeping_last, keeping_end}
 use Rattle.sheet_rows.proofs.measure.Goals as goal
@@ -23,10 +22,6 @@ returns-then-last-eq-LIGHT_UP_AND_LEFT c =
       valid = (valid_more i.1.1 h l.valid).same;
     }
 
-pub loop-end-smaller-else-last-eq-LIGHT_UP_AND_LEFT : goal.loop-end-smaller-else-last-eq-LIGHT_UP_AND_LEFT
-loop-end-smaller-else-last-eq-LIGHT_UP_AND_LEFT c =
-    omega (arith, c.line_at-l.ensures.line.further c.loop-end-test.true)
-
 pub loop-end-preserved-else-last-eq-LIGHT_UP_AND_LEFT : goal.loop-end-preserved-else-last-eq-LIGHT_UP_AND_LEFT
 loop-end-preserved-else-last-eq-LIGHT_UP_AND_LEFT c =
     let i = c.loop-end.invariant in
@@ -37,9 +32,6 @@ loop-end-preserved-else-last-eq-LIGHT_UP_AND_LEFT c =
       measuring_more i.0 l.line h c.max-columns.ensures z q,
       (keeping_more i.1.0 l.line z c.keep_row.ensures q, valid_more i.1.1 h l.valid),
     )
-
-pub loop-end-smaller : goal.loop-end-smaller
-loop-end-smaller c = omega (arith, c.line_at-l.ensures.line.further c.loop-end-test.true)
 
 pub loop-end-preserved : goal.loop-end-preserved
 loop-end-preserved c =

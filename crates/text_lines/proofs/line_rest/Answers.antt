@@ -19,9 +19,6 @@ text c = told _ _ (sym c.in-Text.is ∙ c.seen_at-e.ensures)
 pub overflow_add-p : goal.overflow_add-p
 overflow_add-p c = omega (arith, scan_fits c.loop-p.invariant (text c).0)
 
-pub overflow_add-k : goal.overflow_add-k
-overflow_add-k c = omega (arith, scan_fits c.loop-p.invariant (text c).0)
-
 pub loop-p-smaller-in-Text : goal.loop-p-smaller-in-Text
 loop-p-smaller-in-Text c = omega (arith, scan_fits c.loop-p.invariant (text c).0)
 
@@ -33,9 +30,6 @@ white c = told _ _ (sym c.in-White.is ∙ c.seen_at-e.ensures)
 
 pub overflow_add-p-in-White : goal.overflow_add-p-in-White
 overflow_add-p-in-White c = omega (arith, scan_fits c.loop-p.invariant (white c).0)
-
-pub overflow_add-k-in-White : goal.overflow_add-k-in-White
-overflow_add-k-in-White c = omega (arith, scan_fits c.loop-p.invariant (white c).0)
 
 pub loop-p-smaller : goal.loop-p-smaller
 loop-p-smaller c = omega (arith, scan_fits c.loop-p.invariant (white c).0)

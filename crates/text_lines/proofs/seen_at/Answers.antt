@@ -4,9 +4,6 @@ use borrow.Author.Rules.{rules}
 use Rattle.text_lines.proofs.SeenLaws.{ascii, graphic, blank}
 use Rattle.text_lines.proofs.seen_at.Goals as goal
 
-pub returns-then-a-gt127 : goal.returns-then-a-gt127
-returns-then-a-gt127 c = c.seen_wide.ensures
-
 pub returns-then-a-gt32 : goal.returns-then-a-gt32
 returns-then-a-gt32 c = let a = c.args in sym (graphic a.s.now a.at (search rules) (search rules) c.if-a-gt32.true)
 

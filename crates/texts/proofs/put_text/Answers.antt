@@ -8,22 +8,12 @@ use Rattle.model.specs.Limits.{text_bytes}
 use Rattle.model.specs.declared.Rect.{Rect}
 use Rattle.rects.specs.Rects.{RectIn}
 use Rattle.texts.specs.RegionText.{text_of}
-use Rattle.texts.proofs.TextPutting.{Joining, joining_of, joining_start, joining_part, joining_room, joining_past, joining_more, joining_end}
-use native.Mathlib.Omega.{arith}
+use Rattle.texts.proofs.TextPutting.{Joining, joining_of, joining_start, joining_past, joining_more, joining_end}
 use Rattle.texts.proofs.put_text.Goals as goal
 use Rattle.texts.proofs.put_text.Goals.{After-at-r, At-loop-y}
 
 inside : (c : After-at-r) → RectIn c.args.text.width c.args.text.height c.at-r.result
 inside c = subst (RectIn c.args.text.width c.args.text.height) (sym c.at-r.ensures) c.requires.1
-
-pub overflow_add-from : goal.overflow_add-from
-overflow_add-from c = omega (arith, (inside (goal.at.overflow_add-from c).After-at-r).wide)
-
-pub overflow_sub-to : goal.overflow_sub-to
-overflow_sub-to c = omega (arith, (inside (goal.at.overflow_sub-to c).After-at-r).wide)
-
-pub overflow_sub-bottom : goal.overflow_sub-bottom
-overflow_sub-bottom c = omega (arith, (inside (goal.at.overflow_sub-bottom c).After-at-r).tall)
 
 pub loop-y-init : goal.loop-y-init
 loop-y-init c =
@@ -33,31 +23,6 @@ loop-y-init c =
 -- the invariant, of the rect that was read
 joining : (c : At-loop-y) → (let a = c.args in let r = c.at-r.result in Joining a.text.width a.text.height a.text.codes.now r (r.bottom - 1) a.bytes.now a.start c.loop-y.bytes c.loop-y.y c.loop-y.at)
 joining c = joining_of (sym c.at-r.ensures) c.loop-y.invariant
-
-pub overflow_mul-y : goal.overflow_mul-y
-overflow_mul-y c = omega (arith, joining_part (joining (goal.at.overflow_mul-y c).At-loop-y) c.loop-y-test.true)
-
-pub overflow_add-y : goal.overflow_add-y
-overflow_add-y c = omega (arith, joining_part (joining (goal.at.overflow_add-y c).At-loop-y) c.loop-y-test.true)
-
-pub overflow_mul-y-in-loop-y : goal.overflow_mul-y-in-loop-y
-overflow_mul-y-in-loop-y c = omega (arith, joining_part (joining (goal.at.overflow_mul-y-in-loop-y c).At-loop-y) c.loop-y-test.true)
-
-pub overflow_add-y-in-loop-y : goal.overflow_add-y-in-loop-y
-overflow_add-y-in-loop-y c = omega (arith, joining_part (joining (goal.at.overflow_add-y-in-loop-y c).At-loop-y) c.loop-y-test.true)
-
-pub trim_codes_part-part-requires : goal.trim_codes_part-part-requires
-trim_codes_part-part-requires c = joining_part (joining (goal.at.trim_codes_part-part-requires c).At-loop-y) c.loop-y-test.true
-
-pub put_next-requires : goal.put_next-requires
-put_next-requires c =
-    let i = joining (goal.at.put_next-requires c).At-loop-y in
-    let j = joining_room i c.loop-y-test.true c.trim_codes_part-part.ensures in
-    (i.done.room, j.4)
-
-pub slice_bounds-put_next-end : goal.slice_bounds-put_next-end
-slice_bounds-put_next-end c =
-    omega (arith, joining_room (joining (goal.at.slice_bounds-put_next-end c).At-loop-y) c.loop-y-test.true c.trim_codes_part-part.ensures)
 
 pub returns-in_err-at : goal.returns-in_err-at
 returns-in_err-at c =
