@@ -1,6 +1,7 @@
 -- A part of the bytes: the ways of the test whether it is a text, and the text trimmed.
 use Rattle.std.specs.Prelude.{Result, ℕ, Ok, Err}
-use mathlib.Core.Path.{◌≡◌, sym, ap, ◌∙◌}
+use Rattle.std.specs.Result.{is_ok}
+use mathlib.Core.Path.{◌≡◌, refl, sym, ap, ◌∙◌}
 use mathlib.Core.Bool.{Bool, true, false}
 use mathlib.Core.List.{List}
 use Prim.Native.Nat.{ℕ, ◌+◌, ◌-◌, ◌≤◌, ◌<◌}
@@ -13,6 +14,10 @@ use Rattle.utf8.specs.Utf8.{checked, on_text}
 use Rattle.cells.proofs.SpanLaws.{part_of_lem}
 use Rattle.lent.specs.LentPlane.{good_part}
 
+ok_text : (r : Result (Unit {0}) ℕ) → is_ok r ≡ on_text r (λ at. false) true
+ok_text (Ok u) = refl
+ok_text (Err at) = refl
+
 module _ (bytes : List ℕ) (offset size : ℕ) where
   pub part_long : length bytes < offset + size → false ≡ good_part bytes offset size
   part_long h = rw (lt-leb (offset + size) (length bytes) h)
@@ -21,11 +26,8 @@ module _ (bytes : List ℕ) (offset size : ℕ) where
     whole : checked (take size (drop offset bytes)) ≡ r
     whole = sym (rw (part_of_lem bytes offset size) at e)
 
-    pub part_valid : r ≡ (Ok tt) → true ≡ good_part bytes offset size
-    part_valid q = let z = whole ∙ q in rw (le-leb (offset + size) (length bytes) h, z)
-
-    pub part_invalid : (at : ℕ) → r ≡ Err at → false ≡ good_part bytes offset size
-    part_invalid at q = let z = whole ∙ q in rw (le-leb (offset + size) (length bytes) h, z)
+    pub part_decides : {t : Bool} → t ≡ is_ok r → t ≡ good_part bytes offset size
+    part_decides q = q ∙ ok_text r ∙ rw (le-leb (offset + size) (length bytes) h, whole)
 
 abbrev pub good_at : List ℕ → List ℕ → List ℕ → ℕ → Bool
 good_at offsets sizes bytes k = good_part bytes (get_or offsets k 0) (get_or sizes k 0)

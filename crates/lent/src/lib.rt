@@ -34,8 +34,8 @@ fn total(rows: &[u32]) -> usize
     ensures { result ≡ sum rows.now }
 {
     let mut n = 0;
-    for i in 0..rows.len() {
-        n += rows[i] as usize;
+    for &m in rows {
+        n += m as usize;
     }
     n
 }
@@ -63,12 +63,12 @@ fn is_known(count: usize, kind: u8, region: u32) -> bool
 }
 
 // Whether all cells are known.
-fn cells_known(kinds: &[u8], regions: &[u32], count: usize) -> bool
-    requires { length regions.now ≡ length kinds.now }
-    ensures { result ≡ cells_known count kinds.now regions.now }
+fn cells_known(l: Lent) -> bool
+    requires { length l.regions.now ≡ length l.kinds.now }
+    ensures { result ≡ cells_known (length l.entry.offsets.now) l.entry.kinds.now l.entry.regions.now }
 {
-    for k in 0..kinds.len() {
-        if !is_known(count, kinds[k], regions[k]) {
+    for k in 0..l.kinds.len() {
+        if !is_known(l.offsets.len(), l.kinds[k], l.regions[k]) {
             return false;
         }
     }
@@ -84,19 +84,16 @@ fn is_text(bytes: &[u8], offset: usize, size: usize) -> bool
     if bytes.len() < end {
         return false;
     }
-    match code_points::validate(&bytes[offset..end]) {
-        Ok(()) => true,
-        Err(_) => false,
-    }
+    code_points::validate(&bytes[offset..end]).is_ok()
 }
 
 // Whether all parts are texts.
-fn parts_good(offsets: &[u32], sizes: &[u32], bytes: &[u8]) -> bool
-    requires { length sizes.now ≡ length offsets.now }
-    ensures { result ≡ parts_good offsets.now sizes.now bytes.now }
+fn parts_good(l: Lent) -> bool
+    requires { length l.sizes.now ≡ length l.offsets.now }
+    ensures { result ≡ parts_good l.entry.offsets.now l.entry.sizes.now l.entry.bytes.now }
 {
-    for k in 0..offsets.len() {
-        if !is_text(bytes, offsets[k] as usize, sizes[k] as usize) {
+    for k in 0..l.offsets.len() {
+        if !is_text(l.bytes, l.offsets[k] as usize, l.sizes[k] as usize) {
             return false;
         }
     }
@@ -104,50 +101,50 @@ fn parts_good(offsets: &[u32], sizes: &[u32], bytes: &[u8]) -> bool
 }
 
 // Whether a lent plane is within the limits.
-fn is_within(rows: &[u32], offsets: &[u32], bytes: &[u8]) -> bool
-    ensures { result ≡ within_limits rows.now offsets.now bytes.now }
+fn is_within(l: Lent) -> bool
+    ensures { result ≡ within_limits l.entry.rows.now l.entry.offsets.now l.entry.bytes.now }
 {
-    if PLANE_ROWS < rows.len() {
+    if PLANE_ROWS < l.rows.len() {
         return false;
     }
-    if REGIONS < offsets.len() {
+    if REGIONS < l.offsets.len() {
         return false;
     }
-    if TEXT_BYTES < bytes.len() {
+    if TEXT_BYTES < l.bytes.len() {
         return false;
     }
-    rows_fit(rows)
+    rows_fit(l.rows)
 }
 
 // Whether the slices have the lengths that the rows and the regions ask for.
-fn counts_agree(rows: &[u32], kinds: &[u8], regions: &[u32], offsets: &[u32], sizes: &[u32]) -> bool
-    requires { length rows.now ≤ plane_rows }
-    ensures { result ≡ counts_agree rows.now kinds.now regions.now offsets.now sizes.now }
+fn counts_agree(l: Lent) -> bool
+    requires { length l.rows.now ≤ plane_rows }
+    ensures { result ≡ counts_agree l.entry.rows.now l.entry.kinds.now l.entry.regions.now l.entry.offsets.now l.entry.sizes.now }
 {
-    let n = total(rows);
-    if kinds.len() != n {
+    let n = total(l.rows);
+    if l.kinds.len() != n {
         return false;
     }
-    if regions.len() != n {
+    if l.regions.len() != n {
         return false;
     }
-    sizes.len() == offsets.len()
+    l.sizes.len() == l.offsets.len()
 }
 
 // Whether a lent plane is as number 26 asks.
 fn is_well_formed(l: Lent) -> bool
     ensures { result ≡ well_formed (lists_of l.entry) }
 {
-    if !is_within(l.rows, l.offsets, l.bytes) {
+    if !is_within(l) {
         return false;
     }
-    if !counts_agree(l.rows, l.kinds, l.regions, l.offsets, l.sizes) {
+    if !counts_agree(l) {
         return false;
     }
-    if !cells_known(l.kinds, l.regions, l.offsets.len()) {
+    if !cells_known(l) {
         return false;
     }
-    parts_good(l.offsets, l.sizes, l.bytes)
+    parts_good(l)
 }
 
 // The cell of a kind, which is a number since the caller in C lends it.
@@ -167,42 +164,43 @@ fn cell_of_kind(kind: u8, region: u32) -> Cell
 }
 
 // The n cells from a place on, as the next row of the plane, not yet ended.
-fn load_row(kinds: &[u8], regions: &[u32], at: usize, n: usize, plane: &mut PlaneWriter)
-    requires { CellsGood kinds.now regions.now × (at + n ≤ length kinds.now) × (n ≤ plane_cells) × (plane.old.rows < plane_rows) }
-    ensures cells { next_row plane.new n ≡ build n (λ i. cell_of_kind (get_or kinds.now (at + i) 0) (get_or regions.now (at + i) 0)) }
+fn load_row(l: Lent, at: usize, n: usize, plane: &mut PlaneWriter)
+    requires { CellsGood l.kinds.now l.regions.now × (at + n ≤ length l.kinds.now) × (n ≤ plane_cells) × (plane.old.rows < plane_rows) }
+    ensures cells { next_row plane.new n ≡ build n (λ i. cell_of_kind (get_or l.entry.kinds.now (at + i) 0) (get_or l.entry.regions.now (at + i) 0)) }
     ensures kept { Kept plane.old plane.new }
 {
     for i in 0..n {
-        let c = cell_of_kind(kinds[at + i], regions[at + i]);
+        let c = cell_of_kind(l.kinds[at + i], l.regions[at + i]);
         plane.put_cell(i, c);
     }
 }
 
 // The rows of a lent plane.
-fn load_rows(rows: &[u32], kinds: &[u8], regions: &[u32], plane: &mut PlaneWriter)
-    requires { RowsGood rows.now kinds.now regions.now × (plane.old.rows ≡ 0) }
-    ensures rows { plane.new.rows ≡ length rows.now }
-    ensures plane { Holds plane.old plane.new (cut rows.now (build (length kinds.now) (λ k. cell_of_kind (get_or kinds.now k 0) (get_or regions.now k 0)))) }
+fn load_rows(l: Lent, plane: &mut PlaneWriter)
+    requires { RowsGood l.rows.now l.kinds.now l.regions.now × (plane.old.rows ≡ 0) }
+    ensures rows { plane.new.rows ≡ length l.entry.rows.now }
+    ensures plane { Holds plane.old plane.new (cut l.entry.rows.now (build (length l.entry.kinds.now) (λ k. cell_of_kind (get_or l.entry.kinds.now k 0) (get_or l.entry.regions.now k 0)))) }
 {
     let mut at = 0;
-    for row in 0..rows.len() {
-        let n = rows[row] as usize;
-        load_row(kinds, regions, at, n, plane);
+    for row in 0..l.rows.len() {
+        let n = l.rows[row] as usize;
+        load_row(l, at, n, plane);
         plane.end_row(n);
         at += n;
     }
 }
 
 // Where the texts of the regions stand without white space at their ends.
-fn load_texts(offsets: &[u32], sizes: &[u32], bytes: &[u8], spans: &mut [u32])
-    requires { PartsGood offsets.now sizes.now bytes.now × (length offsets.now * 2 ≤ length spans.old) }
-    ensures texts { texts_in bytes.now spans.new (length offsets.now) ≡ build (length offsets.now) (λ k. trim_utf8 (take (get_or sizes.now k 0) (drop (get_or offsets.now k 0) bytes.now))) }
-    ensures inside { SpansIn bytes.now spans.new (length offsets.now) }
+// Written by index: a vector of numbers of two kinds would be no plainer, and the caller, in C too, lends the slice.
+fn load_texts(l: Lent, spans: &mut [u32])
+    requires { PartsGood l.offsets.now l.sizes.now l.bytes.now × (length l.offsets.now * 2 ≤ length spans.old) }
+    ensures texts { texts_in l.entry.bytes.now spans.new (length l.entry.offsets.now) ≡ build (length l.entry.offsets.now) (λ k. trim_utf8 (take (get_or l.entry.sizes.now k 0) (drop (get_or l.entry.offsets.now k 0) l.entry.bytes.now))) }
+    ensures inside { SpansIn l.entry.bytes.now spans.new (length l.entry.offsets.now) }
 {
-    for k in 0..offsets.len() {
-        let from = offsets[k] as usize;
-        let to = from + sizes[k] as usize;
-        let part = white_space::trim_utf8_part(bytes, from, to);
+    for k in 0..l.offsets.len() {
+        let from = l.offsets[k] as usize;
+        let to = from + l.sizes[k] as usize;
+        let part = white_space::trim_utf8_part(l.bytes, from, to);
         spans[k * 2] = part.from as u32;
         spans[k * 2 + 1] = (part.to - part.from) as u32;
     }
@@ -221,7 +219,7 @@ pub fn load(l: Lent, plane: &mut [u32], spans: &mut [u32]) -> Result<usize, Refu
         cells: plane,
         rows: 0,
     };
-    load_rows(l.rows, l.kinds, l.regions, &mut writer);
-    load_texts(l.offsets, l.sizes, l.bytes, spans);
+    load_rows(l, &mut writer);
+    load_texts(l, spans);
     Ok(l.rows.len())
 }

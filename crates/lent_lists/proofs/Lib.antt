@@ -1,4 +1,3 @@
 -- Laws of the lists of a lent plane in a text.
 pub mod LentTextLaws
-pub mod Widening
 pub mod Examples

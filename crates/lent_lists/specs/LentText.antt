@@ -1,9 +1,8 @@
 -- A lent plane as a text holds it: six lists, each behind its count.
-use Rattle.std.specs.Prelude.{◌&&◌, List, [], ◌∷◌, ℕ, ◌+◌, ◌-◌, ◌*◌, ◌≤◌, leb, length, take, drop, Option, None, Some}
+use Rattle.std.specs.Prelude.{◌&&◌, List, [], ◌∷◌, ℕ, ◌+◌, ◌*◌, ◌≤◌, leb, length, take, drop, Option, None, Some}
 use Rattle.lists.specs.Choose.{choose}
 use Rattle.model.specs.Limits.{text_bytes}
 use Rattle.lent.specs.LentPlane.{LentPlane}
-use Rattle.lent_lists.specs.declared.Ends.{Ends}
 
 -- a list, and what stands behind it
 pub record Cut : Type 0 where
@@ -51,50 +50,11 @@ lent_in s = do
   bytes ← counted text_bytes sizes.rest
   ended bytes.rest (record { rows = rows.list; kinds = kinds.list; regions = regions.list; offsets = offsets.list; sizes = sizes.list; bytes = bytes.list })
 
--- the list whose count stands at `at` and which ends at `end`
-abbrev pub list_at : List ℕ → ℕ → ℕ → List ℕ
-list_at s at end = take (end - (at + 2)) (drop (at + 2) s)
-
--- an answer's list
-abbrev pub cut_in : Option ℕ → ℕ → List ℕ → Option Cut
-cut_in (Some end) at s = Some (record { list = list_at s at end; rest = drop end s })
-cut_in None at s = None
-
--- the list lies in s and is not too long
-pub record EndFits (s : List ℕ) (at most end : ℕ) : Type 0 where
-  pub low : at + 2 ≤ end
-  pub high : end ≤ length s
-  pub short : end ≤ at + 2 + most
-
-abbrev pub EndWithin : Option ℕ → List ℕ → ℕ → ℕ → Type 0
-EndWithin (Some end) s at most = EndFits s at most end
-EndWithin None s at most = Unit {0}
-
--- the six lists that end at some places
-abbrev pub lent_at : Ends → List ℕ → LentPlane
-lent_at e s =
-    record {
-      rows = list_at s 0 e.rows;
-      kinds = list_at s e.rows e.kinds;
-      regions = list_at s e.kinds e.regions;
-      offsets = list_at s e.regions e.offsets;
-      sizes = list_at s e.offsets e.sizes;
-      bytes = list_at s e.sizes e.bytes;
-    }
-
--- an answer's lent plane
-abbrev pub lists_in : Option Ends → List ℕ → Option LentPlane
-lists_in (Some e) s = Some (lent_at e s)
-lists_in None s = None
-
-pub record EndsFit (e : Ends) (s : List ℕ) : Type 0 where
-  pub rows : EndFits s 0 row_most e.rows
-  pub kinds : EndFits s e.rows text_bytes e.kinds
-  pub regions : EndFits s e.kinds region_most e.regions
-  pub offsets : EndFits s e.regions part_most e.offsets
-  pub sizes : EndFits s e.offsets part_most e.sizes
-  pub bytes : EndFits s e.sizes text_bytes e.bytes
-
-abbrev pub ListsWithin : Option Ends → List ℕ → Type 0
-ListsWithin (Some e) s = EndsFit e s
-ListsWithin None s = Unit {0}
+-- no list is too long
+pub record Few (l : LentPlane) : Type 0 where
+  pub rows : length l.rows ≤ row_most
+  pub kinds : length l.kinds ≤ text_bytes
+  pub regions : length l.regions ≤ region_most
+  pub offsets : length l.offsets ≤ part_most
+  pub sizes : length l.sizes ≤ part_most
+  pub bytes : length l.bytes ≤ text_bytes

@@ -1,1 +1,2 @@
 pub mod LentText
+pub mod Lists

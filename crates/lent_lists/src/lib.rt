@@ -1,11 +1,16 @@
-// The lists of a lent plane in a text: where they end, and their bytes as wider numbers.
-// Places are indices into the whole text, as in `utf8`.
+// The lists of a lent plane in a text, and their bytes as wider numbers.
 #![tactic(auto)]
 
-ghost use Rattle.std.specs.Prelude.{◌≡◌, ◌+◌, ◌-◌, ◌≤◌, length, take, drop};
-ghost use Rattle.lent_lists.specs.LentText.{counted, cut_in, EndWithin, lent_in, list_at, lists_in, ListsWithin};
+ghost use Rattle.std.specs.Prelude.{◌≡◌, ◌≤◌, length, IfSome};
+ghost use Rattle.std.specs.Option.{option_map};
+ghost use Rattle.lent_lists.specs.LentText.{counted, lent_in};
+ghost use Rattle.lent_lists.specs.Lists.{lent_of};
 
+use crate::six_lists::Lists;
+use arrayvec::ArrayVec;
 use model::limits::TEXT_BYTES;
+
+pub mod six_lists;
 
 // At most so many row lengths, region numbers, and offsets or lengths of a lent plane.
 pub const ROW_MOST: usize = 255;
@@ -14,51 +19,41 @@ pub const REGION_MOST: usize = 4500;
 
 pub const PART_MOST: usize = 1100;
 
-// The end of the list whose count stands at an index.
-fn list_end(s: &[u8], at: usize, most: usize) -> Option<usize>
-    requires { at ≤ length s.now }
-    ensures s_value { counted most (drop at s.now) ≡ cut_in result at s.now }
-    ensures end_within { EndWithin result s.now at most }
+// The list that stands behind its count, and what stands behind it.
+#[tactic(auto, unfolding(crate::specs::LentText::counted))]
+fn cut(s: &[u8], most: usize) -> Option<(&[u8], &[u8])>
+    ensures cut { option_map (λ p. record { list = p.0.now; rest = p.1.now }) result ≡ counted most s.now }
+    ensures few { IfSome result (λ p. length p.0.now ≤ most) }
 {
-    if s.len() - at < 2 {
+    if s.len() < 2 {
         return None;
     }
-    let n = s[at] as usize * 256 + s[at + 1] as usize;
+    let n = usize::from(s[0]) * 256 + usize::from(s[1]);
     if most < n {
         return None;
     }
-    if s.len() - at - 2 < n {
+    let end = 2 + n;
+    if s.len() < end {
         return None;
     }
-    Some(at + 2 + n)
-}
-
-// Where the six lists of a lent plane end.
-#[derive(Clone, Copy)]
-pub struct Ends {
-    pub rows: usize,
-    pub kinds: usize,
-    pub regions: usize,
-    pub offsets: usize,
-    pub sizes: usize,
-    pub bytes: usize,
+    Some((&s[2..end], &s[end..]))
 }
 
 // The lists of a lent plane in a text.
-pub fn lists_in(s: &[u8]) -> Option<Ends>
-    ensures s_value { lent_in s.now ≡ lists_in result s.now }
-    ensures lists_within { ListsWithin result s.now }
+#[tactic(auto, using(crate::proofs::LentTextLaws::left_over), unfolding(crate::specs::LentText::lent_in))]
+pub fn lists_in(s: &[u8]) -> Option<Lists<'_>>
+    ensures { option_map lent_of result ≡ lent_in s.now }
 {
-    let rows = list_end(s, 0, ROW_MOST)?;
-    let kinds = list_end(s, rows, TEXT_BYTES)?;
-    let regions = list_end(s, kinds, REGION_MOST)?;
-    let offsets = list_end(s, regions, PART_MOST)?;
-    let sizes = list_end(s, offsets, PART_MOST)?;
-    let bytes = list_end(s, sizes, TEXT_BYTES)?;
-    if bytes < s.len() {
+    let (rows, behind) = cut(s, ROW_MOST)?;
+    let (kinds, behind) = cut(behind, TEXT_BYTES)?;
+    let (regions, behind) = cut(behind, REGION_MOST)?;
+    let (offsets, behind) = cut(behind, PART_MOST)?;
+    let (sizes, behind) = cut(behind, PART_MOST)?;
+    let (bytes, behind) = cut(behind, TEXT_BYTES)?;
+    if 0 < behind.len() {
         return None;
     }
-    Some(Ends {
+    Some(Lists {
         rows,
         kinds,
         regions,
@@ -69,12 +64,13 @@ pub fn lists_in(s: &[u8]) -> Option<Ends>
 }
 
 // The bytes of a list, as wider numbers.
-pub fn widen(s: &[u8], at: usize, end: usize, into: &mut [u32])
-    requires { (at + 2 ≤ end) × (end ≤ length s.now) × (end - (at + 2) ≤ length into.old) }
-    ensures { take (end - (at + 2)) into.new ≡ list_at s.now at end }
+pub fn widen<const N: usize>(list: &[u8]) -> ArrayVec<u32, N>
+    requires { length list.now ≤ N }
+    ensures { result.items ≡ list.now }
 {
-    let start = at + 2;
-    for i in 0..end - start {
-        into[i] = s[start + i] as u32;
+    let mut wide = ArrayVec::new();
+    for &b in list {
+        wide.push(u32::from(b));
     }
+    wide
 }

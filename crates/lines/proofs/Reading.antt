@@ -9,7 +9,7 @@ use borrow.Author.Tests.{leb-true}
 use lib.Dec.{leb}
 use lib.ListN.{length, take, drop, length-append, drop_of_length-le}
 use lib.Seq.{length-take-le, drop-drop}
-use Rattle.lists.proofs.Parts.{at_cons}
+use Rattle.lists.proofs.Parts.{at_cons, part_end}
 use Rattle.numerals.specs.RuleNumbers.{number_of}
 use Rattle.print.specs.Lines.{blank}
 use Rattle.lines.specs.Texts.{before, FirstAt, at_most, on_number, onto, nothing_in, bytes_in, text_of}
@@ -35,43 +35,43 @@ module _ {s : List ℕ} {at end : ℕ} (f : FirstAt s at blank end) where
       ap (λ (n : ℕ). drop n (drop at s)) word-length ∙ drop-drop (end - at) at s ∙ ap (λ (n : ℕ). drop n s) e
 
 -- k of the bytes are read, up to `at`, and stand in text
-pub record Reading (line : List ℕ) (from count : ℕ) (text : List ℕ) (at k : ℕ) : Type 0 where
+pub record Reading (s : List ℕ) (count : ℕ) (text : List ℕ) (at k : ℕ) : Type 0 where
   pub along : k ≤ count
-  pub inside : at ≤ length line
+  pub inside : at ≤ length s
   pub long : length text ≡ k
-  pub same : bytes_in count (drop from line) ≡ onto text (bytes_in (count - k) (drop at line))
+  pub same : bytes_in count s ≡ onto text (bytes_in (count - k) (drop at s))
 
-pub reading_start : {line : List ℕ} {from count : ℕ} {text : List ℕ} → from ≤ length line → text ≡ [] → Reading line from count text from 0
-reading_start {line} {from} {count} {text} h e =
+pub reading_start : {s : List ℕ} {count : ℕ} {text : List ℕ} → text ≡ [] → Reading s count text 0 0
+reading_start {s} {count} {text} e =
     let z : count - 0 ≡ count = omega arith in
-    rw e (record { along = omega arith; inside = h; long = refl; same = sym (onto_nil _) ∙ rw z })
+    rw e (record { along = omega arith; inside = omega arith; long = refl; same = sym (onto_nil _) ∙ rw z })
 
-module _ {line : List ℕ} {from count : ℕ} {text : List ℕ} {at k : ℕ} (q : Reading line from count text at k) where
+module _ {s : List ℕ} {count : ℕ} {text : List ℕ} {at k : ℕ} (q : Reading s count text at k) where
   module _ (h : k < count) where
     left : count - k ≡ suc (count - (k + 1))
     left = omega arith
 
-    -- the line ends too early
-    pub reading_cut : length line ≤ at → bytes_in count (drop from line) ≡ None
+    -- the text ends too early
+    pub reading_cut : length s ≤ at → bytes_in count s ≡ None
     unfolding bytes_in
-    reading_cut l = q.same ∙ rw (left, drop_of_length-le line l)
+    reading_cut l = q.same ∙ rw (left, drop_of_length-le s l)
 
-    module _ (l : at < length line) {end : ℕ} (f : FirstAt line (at + 1) blank end) where
-      next : {x : Option ℕ} → x ≡ at_most 255 (number_of (take (end - (at + 1)) (drop (at + 1) line)))
-          → bytes_in (count - k) (drop at line) ≡ on_number x (λ b. onto (b ∷ []) (bytes_in (count - (k + 1)) (drop end line)))
+    module _ (l : at < length s) {end : ℕ} (f : FirstAt s (at + 1) blank end) where
+      next : {x : Option ℕ} → x ≡ at_most 255 (number_of (take (end - (at + 1)) (drop (at + 1) s)))
+          → bytes_in (count - k) (drop at s) ≡ on_number x (λ b. onto (b ∷ []) (bytes_in (count - (k + 1)) (drop end s)))
       unfolding bytes_in
       next n =
-          rw (left, at_cons line at 0 l)
+          rw (left, at_cons s at 0 l)
           (rw (behind-word f, ← f.same, ← n))
 
       -- its word is no byte, or one
-      pub reading_bad : None ≡ at_most 255 (number_of (take (end - (at + 1)) (drop (at + 1) line))) → bytes_in count (drop from line) ≡ None
+      pub reading_bad : None ≡ at_most 255 (number_of (take (end - (at + 1)) (drop (at + 1) s))) → bytes_in count s ≡ None
       reading_bad n = q.same ∙ ap (onto text) (next n)
 
-      pub reading_more : {v : ℕ} {more : List ℕ} → Some v ≡ at_most 255 (number_of (take (end - (at + 1)) (drop (at + 1) line)))
-          → more ≡ text ++ (v ∷ []) → Reading line from count more end (k + 1)
+      pub reading_more : {v : ℕ} {more : List ℕ} → Some v ≡ at_most 255 (number_of (take (end - (at + 1)) (drop (at + 1) s)))
+          → more ≡ text ++ (v ∷ []) → Reading s count more end (k + 1)
       reading_more {v} {more} n w =
-          let x : Option (List ℕ) = bytes_in (count - (k + 1)) (drop end line) in
+          let x : Option (List ℕ) = bytes_in (count - (k + 1)) (drop end s) in
           record {
             along = omega arith;
             inside = f.high;
@@ -80,17 +80,17 @@ module _ {line : List ℕ} {from count : ℕ} {text : List ℕ} {at k : ℕ} (q 
           }
 
   module _ (h : count ≤ k) where
-    rest : bytes_in count (drop from line) ≡ onto text (nothing_in (drop at line))
+    rest : bytes_in count s ≡ onto text (nothing_in (drop at s))
     unfolding bytes_in
     rest = let z : count - k ≡ 0 = omega arith in q.same ∙ rw z
 
     -- something is left
-    pub reading_left : at < length line → bytes_in count (drop from line) ≡ None
-    reading_left l = rest ∙ rw (at_cons line at 0 l)
+    pub reading_left : at < length s → bytes_in count s ≡ None
+    reading_left l = rest ∙ rw (at_cons s at 0 l)
 
     -- all bytes are read
-    pub reading_end : length line ≤ at → bytes_in count (drop from line) ≡ Some text
-    reading_end l = rest ∙ rw (drop_of_length-le line l) (ap Some (append-nil text))
+    pub reading_end : length s ≤ at → bytes_in count s ≡ Some text
+    reading_end l = rest ∙ rw (drop_of_length-le s l) (ap Some (append-nil text))
 
 -- a number that is not too large
 small : (most v : ℕ) (x : Option ℕ) → at_most most x ≡ Some v → v ≤ most
@@ -116,8 +116,8 @@ module _ {line : List ℕ} (most : ℕ) {end : ℕ} (f : FirstAt line 0 blank en
   pub text_bad : None ≡ at_most most (number_of (take (end - 0) (drop 0 line))) → text_of most line ≡ None
   text_bad n = counted n
 
-  pub text-read : {v : ℕ} → Some v ≡ at_most most (number_of (take (end - 0) (drop 0 line))) → text_of most line ≡ bytes_in v (drop end line)
-  text-read n = counted n
+  pub text-read : {v : ℕ} → Some v ≡ at_most most (number_of (take (end - 0) (drop 0 line))) → text_of most line ≡ bytes_in v (take (length line - end) (drop end line))
+  text-read {v} n = counted n ∙ ap (bytes_in v) (sym (part_end line end))
 
   pub count_small : {v : ℕ} → Some v ≡ at_most most (number_of (take (end - 0) (drop 0 line))) → v ≤ most
   count_small {v} n = small most v (number_of (take (end - 0) (drop 0 line))) (sym n)

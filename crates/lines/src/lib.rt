@@ -1,8 +1,7 @@
 // A line of input: the words of a line, and the text that stands behind a line's kind.
-// Places are indices into the whole text, as in `utf8`.
 #![tactic(auto)]
 
-ghost use Rattle.std.specs.Prelude.{◌≡◌, ◌≤◌, length, drop};
+ghost use Rattle.std.specs.Prelude.{◌≡◌, ◌≤◌, length};
 ghost use Rattle.numerals.specs.RuleNumbers.{number_of};
 ghost use Rattle.lines.specs.Texts.{FirstAt, at_most, bytes_in, text_of, items_of};
 
@@ -12,6 +11,7 @@ use arrayvec::ArrayVec;
 pub const LINE_BYTES: usize = 550000;
 
 // The index of the first m from `at` on, or the end.
+// A place and no part of the text: it tells a place of the whole, where `replay` goes on in its input.
 pub fn find(s: &[u8], at: usize, m: u8) -> usize
     requires { at ≤ length s.now }
     ensures { FirstAt s.now at m result }
@@ -35,24 +35,24 @@ fn small_number(word: &[u8], most: usize) -> Option<usize>
     None
 }
 
-// The bytes that stand in a line from a place on, each behind a blank.
-fn read_bytes<const N: usize>(line: &[u8], from: usize, count: usize) -> Option<ArrayVec<u8, N>>
-    requires { (from ≤ length line.now) × (count ≤ N) }
-    ensures { bytes_in count (drop from line.now) ≡ items_of result }
+// So many bytes, each behind a blank.
+fn read_bytes<const N: usize>(s: &[u8], count: usize) -> Option<ArrayVec<u8, N>>
+    requires { count ≤ N }
+    ensures { bytes_in count s.now ≡ items_of result }
 {
     let mut text = ArrayVec::new();
-    let mut at = from;
+    let mut at = 0;
     for _ in 0..count {
-        if line.len() <= at {
+        if s.len() <= at {
             return None;
         }
         let start = at + 1;
-        let end = find(line, start, 0x20);
-        let b = small_number(&line[start..end], 255)?;
+        let end = find(s, start, 0x20);
+        let b = small_number(&s[start..end], 255)?;
         text.push(b as u8);
         at = end;
     }
-    if at < line.len() {
+    if at < s.len() {
         return None;
     }
     Some(text)
@@ -64,5 +64,5 @@ pub fn read_text<const N: usize>(line: &[u8]) -> Option<ArrayVec<u8, N>>
 {
     let end = find(line, 0, 0x20);
     let count = small_number(&line[0..end], N)?;
-    read_bytes(line, end, count)
+    read_bytes(&line[end..], count)
 }

@@ -220,9 +220,8 @@ impl From<Orientation> for u32 {
     }
 }
 
-// Numbers, since the slice of a plane is the caller's, in C too.
 impl Cell {
-    // The number of a cell's kind.
+    // The number of a cell's kind, by which two are compared: `==` tells two regions apart, which are of one kind.
     fn kind(self) -> u32
         ensures { result ≡ kind_of self }
     {
@@ -260,7 +259,7 @@ impl Cell {
         self.kind() == other.kind()
     }
 
-    // The number that a slice holds for a cell.
+    // The number that a slice holds for a cell: no enum, since the slice of a plane is the caller's, in C too.
     pub fn number(self) -> u32
         requires { Small self }
         ensures { result ≡ cell_number self }
@@ -294,7 +293,7 @@ impl Cell {
     }
 }
 
-// The cell for which a slice holds a number.
+// The cell for which a slice holds a number, as `number` says.
 impl From<u32> for Cell {
     ghost use Rattle.std.specs.Prelude.{◌≡◌};
     ghost use Rattle.model.specs.Cells.{cell_of, Small};

@@ -5,6 +5,7 @@ use model::{Numbers, Refusal};
 use values::Rewritten;
 
 // n = 0 and a record of `a` bytes, or a refusal's N, A and B.
+// Not `model::Numbers`, which are a refusal's alone: this one is C's, so its layout is fixed.
 #[repr(C)]
 #[derive(Clone, Copy)]
 pub struct Answer {

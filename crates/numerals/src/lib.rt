@@ -1,20 +1,18 @@
 // The rule number that a text is.
-// Places are indices into the whole text, as in `utf8`.
 #![tactic(auto)]
 
-ghost use Rattle.std.specs.Prelude.{◌≡◌, drop};
+ghost use Rattle.std.specs.Prelude.{◌≡◌};
 ghost use Rattle.numerals.specs.RuleNumbers.{number_of, unsigned};
 
-// The number that the text from an index on is, digits alone.
-fn unsigned_number(s: &[u8], from: usize) -> Option<u64>
-    ensures { result ≡ unsigned (drop from s.now) }
+// The number that a text is, digits alone.
+fn unsigned_number(s: &[u8]) -> Option<u64>
+    ensures { result ≡ unsigned s.now }
 {
-    if s.len() <= from {
+    if s.len() == 0 {
         return None;
     }
     let mut a: u64 = 0;
-    for i in from..s.len() {
-        let c = s[i];
+    for &c in s {
         if c < 0x30 {
             return None;
         }
@@ -38,7 +36,7 @@ pub fn rule_number(s: &[u8]) -> Option<u64>
         return None;
     }
     if s[0] == 0x2B {
-        return unsigned_number(s, 1);
+        return unsigned_number(&s[1..]);
     }
-    unsigned_number(s, 0)
+    unsigned_number(s)
 }

@@ -45,7 +45,7 @@ pub fn put_plane<const N: usize>(out: &mut ArrayVec<u8, N>, plane: Plane)
     }
 }
 
-// The numbers of an upright sheet, and its plane.
+// The numbers of an upright sheet, which may be any (the enums would ask more of a caller), and its plane.
 pub fn put_upright<const N: usize>(
     out: &mut ArrayVec<u8, N>,
     orientation: u32,

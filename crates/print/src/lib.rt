@@ -1,4 +1,6 @@
 // The lines that the judge of the Rust prints, at the end of a vector of bytes: numbers, words, texts, counts, refusals.
+// No `Display`, since `fmt` may fail and these cannot (DECISIONS 82), here and in the crates that print with these; a vector of fixed
+// capacity, since nothing is allocated.
 #![tactic(auto)]
 
 ghost use Rattle.std.specs.Prelude.{◌∷◌, ◌+◌, ◌*◌, ◌≤◌, length};
@@ -15,6 +17,7 @@ pub fn put_number<const N: usize>(out: &mut ArrayVec<u8, N>, n: u64)
     requires { array_vec_len out.old + 20 ≤ N }
     ensures { Written out.old.items out.new.items (decimal n) 20 }
 {
+    // A slice and a count: the kit's `decimal` writes into a slice.
     let mut digits = [0u8; 20];
     let k = io::decimal(n, &mut digits);
     put_word(out, &digits[..k]);

@@ -1,21 +1,18 @@
 -- A lent plane that is answered.
 use Rattle.std.specs.Prelude.{Option, Some, None}
-use mathlib.Core.Bool.{Bool}
+use Rattle.std.specs.Option.{option_map}
 use mathlib.Core.List.{List}
+use mathlib.Core.Path.{◌≡◌, refl, sym, ap, ◌∙◌}
 use Prim.Native.Nat.{ℕ}
-use mathlib.Core.Path.{◌≡◌, ap, ◌∙◌}
 use Rattle.print.specs.Decimal.{Written}
-use Rattle.lent_lists.specs.LentText.{lent_in, lent_at, lists_in}
-use Rattle.lent_lists.specs.declared.Ends.{Ends}
-use Rattle.lent_answers.specs.Lines.{lines_by}
+use Rattle.lent.specs.LentPlane.{LentPlane}
 use Rattle.lines.specs.Room.{line_bytes}
-use Rattle.replay.specs.Answers.{lent_answer, AnsweredIn}
+use Rattle.replay.specs.Answers.{AnsweredIn}
 
 -- lists that are answered, or not there
-module _ (is-table : Bool) (s : List ℕ) (r : Option Ends) (e : lent_in s ≡ lists_in r s) where
-  pub lent-answered : {d o : List ℕ} {x : Ends} → r ≡ Some x → Written d o (lines_by is-table (lent_at x s)) line_bytes
-      → AnsweredIn (Some tt) (lent_answer is-table (lent_in s)) d o
-  lent-answered {x = x} k w = (lines_by is-table (lent_at x s), (ap (lent_answer is-table) (e ∙ ap (λ (r : Option Ends). lists_in r s) k), w))
+module _ (lines : LentPlane → List ℕ) {r : Option LentPlane} {x : Option (List ℕ)} (k : x ≡ option_map lines r) where
+  pub lent-answered : {d o : List ℕ} {l : LentPlane} → Some l ≡ r → Written d o (lines l) line_bytes → AnsweredIn (Some tt) x d o
+  lent-answered {l = l} e w = (lines l, (k ∙ ap (option_map lines) (sym e), w))
 
-  pub lent_none : r ≡ None → lent_answer is-table (lent_in s) ≡ None
-  lent_none k = ap (lent_answer is-table) (e ∙ ap (λ (r : Option Ends). lists_in r s) k)
+  pub lent_none : None ≡ r → x ≡ None
+  lent_none e = k ∙ ap (option_map lines) (sym e)

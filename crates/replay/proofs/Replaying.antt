@@ -12,10 +12,11 @@ use Rattle.lists.proofs.Parts.{at_cons, part_add, part_end}
 use Rattle.model.specs.Limits.{text_bytes}
 use Rattle.numerals.specs.RuleNumbers.{number_of}
 use Rattle.print.specs.Lines.{blank, line_feed}
+use Rattle.lent_lists.specs.LentText.{◌>>=◌}
 use Rattle.lines.specs.Texts.{before, FirstAt, text_of}
 use Rattle.lines.specs.Room.{line_bytes}
 use Rattle.replay.specs.Answers.{text_answer, answer_by, answer_of, AnsweredIn, Replayed, nothing, line, Stopped}
-use Rattle.replay.specs.Kinds.{kind_of, word_of}
+use Rattle.replay.specs.Kinds.{kind_of, word_of, rest_of}
 use Rattle.replay.specs.declared.Kind.{Kind}
 
 -- the answer to a text by a kind, where it is known
@@ -39,19 +40,29 @@ module _ {line : List ℕ} {end : ℕ} (f : FirstAt line 0 blank end) where
       let z : end - 0 ≡ end = omega arith in
       ap length (sym f.same) ∙ length-take-le (end - 0) line (omega (arith, f.high)) ∙ z
 
-  pub answer-is : (k K : Kind) → k ≡ kind_of (take (end - 0) (drop 0 line)) → k ≡ K
+  pub answer-is : {K : Kind} → Some K ≡ kind_of (take (end - 0) (drop 0 line))
       → answer_by K text_bytes (take (length line - (end + 1)) (drop (end + 1) line)) ≡ answer_of text_bytes line
   unfolding answer_of
-  answer-is k K e g =
+  answer-is {K} e =
       let z : suc (length (before blank line)) ≡ end + 1 = omega (arith, word_long) in
-      let w : kind_of (word_of line) ≡ K = ap kind_of (sym f.same) ∙ sym e ∙ g in
+      let w : kind_of (word_of line) ≡ Some K = ap kind_of (sym f.same) ∙ sym e in
       ap (answer_by K text_bytes) (part_end line (end + 1)) ∙ sym (rw (w, z))
+
+  pub no_kind : None ≡ kind_of (take (end - 0) (drop 0 line)) → answer_of text_bytes line ≡ None
+  unfolding answer_of
+  no_kind e =
+      let w : kind_of (word_of line) ≡ None = ap kind_of (sym f.same) ∙ sym e in
+      rw w
 
   pub no_rest : end ≡ length line → answer_of text_bytes line ≡ None
   unfolding answer_of text_of before number_of
   no_rest e =
       let z : length line ≤ suc (length (before blank line)) = omega (arith, word_long) in
-      ap (answer_by (kind_of (word_of line)) text_bytes) (drop_of_length-le line z)
+      go (drop_of_length-le line z) (kind_of (word_of line))
+    where
+      go : rest_of line ≡ [] → (x : Option Kind) → ◌>>=◌ x (λ kind. answer_by kind text_bytes (rest_of line)) ≡ None
+      go d None = refl
+      go d (Some k) = ap (answer_by k text_bytes) d
 
 -- the lines of the input up to `at` are answered
 pub record Answering (input out : List ℕ) (at : ℕ) : Type 0 where

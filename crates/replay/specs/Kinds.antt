@@ -1,11 +1,11 @@
 -- The word that a line begins with.
-use Rattle.std.specs.Prelude.{List, [], ◌∷◌, ℕ, suc, length, drop}
+use Rattle.std.specs.Prelude.{List, [], ◌∷◌, ℕ, suc, length, drop, Option, None, Some}
 use Rattle.lists.specs.Choose.{choose}
 use Rattle.hit_policies.specs.Letters.{same_text}
 use Rattle.print.specs.Lines.{blank}
 use Rattle.lines.specs.Texts.{before}
 use Rattle.replay.specs.declared.Kind.{Kind}
-use Rattle.replay.specs.declared.Kind.TheVariants.{Split, Drawing, Plane, Sheet, Table, Unknown}
+use Rattle.replay.specs.declared.Kind.TheVariants.{Split, Drawing, Plane, Sheet, Table}
 
 -- "split"
 abbrev pub split_word : List ℕ
@@ -27,12 +27,12 @@ sheet_word = 0x73 ∷ 0x68 ∷ 0x65 ∷ 0x65 ∷ 0x74 ∷ []
 abbrev pub table_word : List ℕ
 table_word = 0x74 ∷ 0x61 ∷ 0x62 ∷ 0x6C ∷ 0x65 ∷ []
 
--- what a word asks for
-unfoldable pub kind_of : List ℕ → Kind
+-- what a word asks for, if anything
+unfoldable pub kind_of : List ℕ → Option Kind
 kind_of word =
-    choose (same_text word split_word) Split
-    (choose (same_text word drawing_word) Drawing
-    (choose (same_text word plane_word) Plane (choose (same_text word sheet_word) Sheet (choose (same_text word table_word) Table Unknown))))
+    choose (same_text word split_word) (Some Split)
+    (choose (same_text word drawing_word) (Some Drawing)
+    (choose (same_text word plane_word) (Some Plane) (choose (same_text word sheet_word) (Some Sheet) (choose (same_text word table_word) (Some Table) None))))
 
 -- a line's first word, and what stands behind it and a blank
 abbrev pub word_of : List ℕ → List ℕ

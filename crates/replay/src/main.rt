@@ -6,12 +6,12 @@
 ghost use Rattle.std.specs.Prelude.{◌≡◌, ◌+◌, ◌≤◌, length, take};
 ghost use Rattle.arrayvec.specs.ArrayVec.{array_vec_len};
 ghost use Rattle.model.specs.Limits.{text_bytes};
-ghost use Rattle.lent_lists.specs.LentText.{lent_in};
 ghost use Rattle.lines.specs.Room.{line_bytes};
 ghost use Rattle.replay.specs.Kinds.{kind_of};
-ghost use Rattle.replay.specs.Answers.{lent_answer, text_answer, answer_by, answer_of, AnsweredIn, Replayed, Stopped};
+ghost use Rattle.replay.specs.Answers.{text_answer, answer_by, answer_of, AnsweredIn, Replayed, Stopped};
 
 use arrayvec::ArrayVec;
+use lent_answers::Asked;
 use lines::LINE_BYTES;
 use model::limits::TEXT_BYTES;
 use std::io::{self, Read, Write};
@@ -24,39 +24,28 @@ pub enum Kind {
     Plane,
     Sheet,
     Table,
-    Unknown,
 }
 
-// The kind that a word tells.
-fn kind_of(word: &[u8]) -> Kind
+// The kind that a word tells, if it tells one.
+fn kind_of(word: &[u8]) -> Option<Kind>
     ensures { result ≡ kind_of word.now }
 {
     if word == b"split".as_slice() {
-        Kind::Split
+        Some(Kind::Split)
     } else if word == b"drawing".as_slice() {
-        Kind::Drawing
+        Some(Kind::Drawing)
     } else if word == b"plane".as_slice() {
-        Kind::Plane
+        Some(Kind::Plane)
     } else if word == b"sheet".as_slice() {
-        Kind::Sheet
+        Some(Kind::Sheet)
     } else if word == b"table".as_slice() {
-        Kind::Table
+        Some(Kind::Table)
     } else {
-        Kind::Unknown
+        None
     }
 }
 
-// The answer to the bytes of a lent plane.
-fn answer_lent<const N: usize>(s: &[u8], is_table: bool, out: &mut ArrayVec<u8, N>) -> Option<()>
-    requires { array_vec_len out.old + line_bytes ≤ N }
-    ensures { AnsweredIn result (lent_answer is_table (lent_in s.now)) out.old.items out.new.items }
-{
-    let e = lent_lists::lists_in(s)?;
-    lent_answers::put_lent(out, is_table, s, e);
-    Some(())
-}
-
-// The answer to a text.
+// The answer to a text: `kind` is what the line asks for, and each has its own step here.
 fn answer_text<const N: usize>(kind: Kind, text: &[u8], out: &mut ArrayVec<u8, N>) -> Option<()>
     requires { (array_vec_len out.old + line_bytes ≤ N) × (length text.now ≤ text_bytes) }
     ensures { AnsweredIn result (text_answer kind text_bytes text.now) out.old.items out.new.items }
@@ -71,13 +60,20 @@ fn answer_text<const N: usize>(kind: Kind, text: &[u8], out: &mut ArrayVec<u8, N
             drawings::put_drawing(out, text);
             Some(())
         }
-        Kind::Plane => answer_lent(text, false, out),
+        Kind::Plane => {
+            let l = lent_lists::lists_in(text)?;
+            lent_answers::put_lent(out, Asked::Upright, l);
+            Some(())
+        }
         Kind::Sheet => {
             reports::put_sheet(out, text);
             Some(())
         }
-        Kind::Table => answer_lent(text, true, out),
-        Kind::Unknown => None,
+        Kind::Table => {
+            let l = lent_lists::lists_in(text)?;
+            lent_answers::put_lent(out, Asked::Record, l);
+            Some(())
+        }
     }
 }
 
@@ -99,7 +95,7 @@ fn answer_line<const N: usize>(line: &[u8], out: &mut ArrayVec<u8, N>) -> Option
     if end == line.len() {
         return None;
     }
-    let kind = kind_of(&line[0..end]);
+    let kind = kind_of(&line[0..end])?;
     answer_by(kind, &line[end + 1..], out)
 }
 
@@ -137,6 +133,7 @@ fn answer_lines<const N: usize>(input: &[u8], out: &mut ArrayVec<u8, N>) -> Prog
 }
 
 // Reads once, behind the bytes that wait, and answers how many bytes came: none where the read fails.
+// A slice and a count, here and below, and no vector: `read` fills a slice, and a vector lends only what it holds.
 fn read_more<R: Read>(reader: &mut R, input: &mut [u8], count: usize) -> usize
     requires { count ≤ length input.old }
     ensures { count + result ≤ length input.new }
@@ -174,7 +171,7 @@ fn replay_some<R: Read, W: Write, const N: usize>(
     }
 }
 
-// Not at the end of the input, nor at a malformed line, nor where nothing can be written.
+// Not at the end of the input, nor at a malformed line, nor where nothing can be written: facts of a turn, and no step to run.
 fn goes_on(got: usize, at: usize, is_good: bool, is_written: bool) -> bool {
     if !is_good {
         return false;

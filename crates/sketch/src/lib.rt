@@ -24,6 +24,7 @@ fn put_code<const N: usize>(out: &mut ArrayVec<u8, N>, c: u32)
     requires { array_vec_len out.old + 4 ≤ N }
     ensures { Written out.old.items out.new.items (encode c) 4 }
 {
+    // A slice and a count: `encoding` writes at a place of a slice.
     let mut code = [0u8; 4];
     let n = encoding::put_code(&mut code, 0, c);
     print::put_word(out, &code[..n]);

@@ -7,4 +7,4 @@ use Rattle.lent.proofs.KindLaws.{known_at}
 use Rattle.lent.proofs.cells_known.Given as goal
 
 abbrev pub invariant-loop-k : goal.invariant-loop-k
-invariant-loop-k l = (l.k ≤ length l.kinds) × (all_at (known_at l.count l.kinds l.regions) l.k ≡ true)
+invariant-loop-k l = (l.k ≤ length l.l.kinds.now) × (all_at (known_at (length l.l.offsets.now) l.l.kinds.now l.l.regions.now) l.k ≡ true)

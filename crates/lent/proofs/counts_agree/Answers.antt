@@ -2,17 +2,17 @@
 use Rattle.lent.proofs.CountLaws.{kinds-differ, regions-differ, sizes_decide}
 use Rattle.lent.proofs.counts_agree.Goals as goal
 
-pub returns-then-kinds-n : goal.returns-then-kinds-n
-returns-then-kinds-n c =
+pub returns-then-l-n : goal.returns-then-l-n
+returns-then-l-n c =
     let a = c.args in
-    kinds-differ a.rows.now a.kinds.now a.regions.now a.offsets.now a.sizes.now _ c.total-n.ensures c.if-kinds-n.true
+    kinds-differ a.l.rows.now a.l.kinds.now a.l.regions.now a.l.offsets.now a.l.sizes.now _ c.total-n.ensures c.if-l-n.true
 
-pub returns-then-regions-n : goal.returns-then-regions-n
-returns-then-regions-n c =
+pub returns-then-l-n-2 : goal.returns-then-l-n-2
+returns-then-l-n-2 c =
     let a = c.args in
-    regions-differ a.rows.now a.kinds.now a.regions.now a.offsets.now a.sizes.now _ c.total-n.ensures c.if-kinds-n.false c.if-regions-n.true
+    regions-differ a.l.rows.now a.l.kinds.now a.l.regions.now a.l.offsets.now a.l.sizes.now _ c.total-n.ensures c.if-l-n.false c.if-l-n-2.true
 
 pub returns : goal.returns
 returns c =
     let a = c.args in
-    sizes_decide a.rows.now a.kinds.now a.regions.now a.offsets.now a.sizes.now _ c.total-n.ensures c.if-kinds-n.false c.if-regions-n.false
+    sizes_decide a.l.rows.now a.l.kinds.now a.l.regions.now a.l.offsets.now a.l.sizes.now _ c.total-n.ensures c.if-l-n.false c.if-l-n-2.false

@@ -9,17 +9,14 @@ use native.Mathlib.Omega.{arith}
 use Rattle.lent.proofs.load_rows.Goals as goal
 
 pub loop-row-init : goal.loop-row-init
-loop-row-init c = (omega arith, start_zero c.args.rows.now, plane-begun _ _ c.requires.1)
-
-pub overflow_cast-n : goal.overflow_cast-n
-overflow_cast-n c = omega (arith, c.shared_slice_known-in-loop-row-1.given c.loop-row.row)
+loop-row-init c = (omega arith, start_zero c.args.l.rows.now, plane-begun _ _ c.requires.1)
 
 pub load_row-requires : goal.load_row-requires
 load_row-requires c =
     let h = c.loop-row-test.true in
     let p = c.requires in (
       p.0.cells,
-      omega (arith, c.loop-row.invariant.1, row_within c.args.rows.now c.loop-row.row h, p.0.total),
+      omega (arith, c.loop-row.invariant.1, row_within c.args.l.rows.now c.loop-row.row h, p.0.total),
       p.0.short _ h,
       omega (arith, c.loop-row.invariant.2.rows, h, p.0.few),
     )
@@ -32,7 +29,7 @@ end_row-requires c =
 
 pub overflow_add-at : goal.overflow_add-at
 overflow_add-at c =
-    omega (arith, c.loop-row.invariant.1, row_within c.args.rows.now c.loop-row.row c.loop-row-test.true, c.requires.0.total, c.well_formed)
+    omega (arith, c.loop-row.invariant.1, row_within c.args.l.rows.now c.loop-row.row c.loop-row-test.true, c.requires.0.total, c.well_formed)
 
 pub loop-row-preserved : goal.loop-row-preserved
 loop-row-preserved c =
@@ -40,9 +37,9 @@ loop-row-preserved c =
     let a = c.args in
     let i = c.loop-row.invariant in (
       omega (arith, h),
-      rw i.1 (start-next a.rows.now c.loop-row.row h),
+      rw i.1 (start-next a.l.rows.now c.loop-row.row h),
       plane-more i.2 c.load_row.ensures.kept
-          (c.load_row.ensures.cells ∙ row_at a.rows.now (lent_cell a.kinds.now a.regions.now) c.loop-row.row c.loop-row.at i.1)
+          (c.load_row.ensures.cells ∙ row_at a.l.rows.now (lent_cell a.l.kinds.now a.l.regions.now) c.loop-row.row c.loop-row.at i.1)
           c.end_row.ensures,
     )
 
@@ -50,8 +47,8 @@ pub returns : goal.returns
 returns c =
     let a = c.args in
     let i = c.loop-row.invariant in
-    let f = plane-full i.2 (length a.rows.now) i.0 c.loop-row-test.false in
+    let f = plane-full i.2 (length a.l.rows.now) i.0 c.loop-row-test.false in
     record {
       rows = omega (arith, i.2.rows, i.0, c.loop-row-test.false);
-      plane = record { same = f.same; plane = f.plane ∙ cut-rows a.rows.now (length a.kinds.now) (lent_cell a.kinds.now a.regions.now) c.requires.0.total };
+      plane = record { same = f.same; plane = f.plane ∙ cut-rows a.l.rows.now (length a.l.kinds.now) (lent_cell a.l.kinds.now a.l.regions.now) c.requires.0.total };
     }

@@ -8,4 +8,4 @@ use Rattle.lent.proofs.KindLaws.{lent_cell}
 use Rattle.lent.proofs.load_rows.Given as goal
 
 abbrev pub invariant-loop-row : goal.invariant-loop-row
-invariant-loop-row l = (l.row ≤ length l.rows) × (l.at ≡ start_of l.rows l.row) × PlaneWritten (row_cells l.rows (lent_cell l.kinds l.regions)) l.initial.plane l.plane l.row
+invariant-loop-row l = (l.row ≤ length l.l.rows.now) × (l.at ≡ start_of l.l.rows.now l.row) × PlaneWritten (row_cells l.l.rows.now (lent_cell l.l.kinds.now l.l.regions.now)) l.initial.plane l.plane l.row

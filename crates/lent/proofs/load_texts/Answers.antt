@@ -14,10 +14,10 @@ module _ (c : After-trim_utf8_part-part) where
   abbrev k : ℕ
   k = c.loop-k.k
 
-  inside : get_or c.args.offsets.now k 0 + get_or c.args.sizes.now k 0 ≤ length c.args.bytes.now
+  inside : get_or c.args.l.offsets.now k 0 + get_or c.args.l.sizes.now k 0 ≤ length c.args.l.bytes.now
   inside = c.requires.0.inside k c.loop-k-test.true
 
-  few : length c.args.bytes.now ≤ text_bytes
+  few : length c.args.l.bytes.now ≤ text_bytes
   few = c.requires.0.few
 
   room : k * 2 + 1 < length c.args.spans.now
@@ -25,18 +25,6 @@ module _ (c : After-trim_utf8_part-part) where
 
 pub loop-k-init : goal.loop-k-init
 loop-k-init c = (omega arith, spans-start _ _ _)
-
-pub overflow_cast-from : goal.overflow_cast-from
-overflow_cast-from c = omega (arith, c.shared_slice_known-in-loop-k-1.given c.loop-k.k)
-
-pub bounds-sizes-k : goal.bounds-sizes-k
-bounds-sizes-k c = omega (arith, c.loop-k-test.true, c.requires.0.same)
-
-pub overflow_cast-to : goal.overflow_cast-to
-overflow_cast-to c = omega (arith, c.shared_slice_known-in-loop-k-2-1.given c.loop-k.k)
-
-pub overflow_add-to : goal.overflow_add-to
-overflow_add-to c = let k = c.loop-k.k in omega (arith, c.shared_slice_known-in-loop-k-1.given k, c.shared_slice_known-in-loop-k-2-1.given k)
 
 pub trim_utf8_part-part-requires : goal.trim_utf8_part-part-requires
 trim_utf8_part-part-requires c =
@@ -69,11 +57,11 @@ loop-k-preserved c =
     let k = c.loop-k.k in (
       omega (arith, c.loop-k-test.true),
       spans-next _ _ _ _ k _ _ c.loop-k.invariant.1 (room (goal.at.loop-k-preserved c).After-trim_utf8_part-part) (omega (arith, p.ordered, p.high, inside (goal.at.loop-k-preserved c).After-trim_utf8_part-part))
-          (part_trimmed a.bytes.now (get_or a.offsets.now k 0) (get_or a.sizes.now k 0) _ c.trim_utf8_part-part.result.from c.trim_utf8_part-part.result.to p),
+          (part_trimmed a.l.bytes.now (get_or a.l.offsets.now k 0) (get_or a.l.sizes.now k 0) _ c.trim_utf8_part-part.result.from c.trim_utf8_part-part.result.to p),
     )
 
 pub returns : goal.returns
 returns c =
     let a = c.args in
-    let f = spans_end _ _ _ _ (length a.offsets.now) _ c.loop-k.invariant.1 c.loop-k.invariant.0 c.loop-k-test.false in
+    let f = spans_end _ _ _ _ (length a.l.offsets.now) _ c.loop-k.invariant.1 c.loop-k.invariant.0 c.loop-k-test.false in
     record { texts = f.texts; inside = record { inside = f.inside } }

@@ -5,4 +5,4 @@ use Rattle.lent.proofs.TextLaws.{text_on}
 use Rattle.lent.proofs.load_texts.Given as goal
 
 abbrev pub invariant-loop-k : goal.invariant-loop-k
-invariant-loop-k l = (l.k ≤ length l.offsets) × SpansFilled (text_on l.offsets l.sizes l.bytes) l.bytes l.initial.spans l.spans l.k
+invariant-loop-k l = (l.k ≤ length l.l.offsets.now) × SpansFilled (text_on l.l.offsets.now l.l.sizes.now l.l.bytes.now) l.l.bytes.now l.initial.spans l.spans l.k

@@ -6,30 +6,19 @@ use native.Mathlib.Omega.{arith}
 use Rattle.lent.proofs.parts_good.Goals as goal
 
 pub loop-k-init : goal.loop-k-init
-loop-k-init c = let a = c.args in (omega arith, all_start (good_at a.offsets.now a.sizes.now a.bytes.now))
-
-pub overflow_cast-offsets : goal.overflow_cast-offsets
-overflow_cast-offsets c = omega (arith, c.shared_slice_known-in-loop-k-1.given c.loop-k.k)
-
-pub overflow_cast-sizes : goal.overflow_cast-sizes
-overflow_cast-sizes c = omega (arith, c.shared_slice_known-in-loop-k-2-1.given c.loop-k.k)
-
-pub is_text-requires : goal.is_text-requires
-is_text-requires c =
-    let k = c.loop-k.k in
-    ((c.shared_slice_known-in-loop-k-1.given k).fits, (c.shared_slice_known-in-loop-k-2-1.given k).fits)
+loop-k-init c = let a = c.args in (omega arith, all_start (good_at a.l.offsets.now a.l.sizes.now a.l.bytes.now))
 
 pub returns-then-not-is_text : goal.returns-then-not-is_text
 returns-then-not-is_text c =
     let a = c.args in
-    all-out (good_at a.offsets.now a.sizes.now a.bytes.now) _ c.loop-k.k c.loop-k-test.true (sym c.is_text.ensures ∙ c.if-not-is_text.true)
+    all-out (good_at a.l.offsets.now a.l.sizes.now a.l.bytes.now) _ c.loop-k.k c.loop-k-test.true (sym c.is_text.ensures ∙ c.if-not-is_text.true)
 
 pub loop-k-preserved : goal.loop-k-preserved
 loop-k-preserved c =
     let a = c.args in
-    (omega (arith, c.loop-k-test.true), all_more (good_at a.offsets.now a.sizes.now a.bytes.now) c.loop-k.k c.loop-k.invariant.1 (sym c.is_text.ensures ∙ c.if-not-is_text.false))
+    (omega (arith, c.loop-k-test.true), all_more (good_at a.l.offsets.now a.l.sizes.now a.l.bytes.now) c.loop-k.k c.loop-k.invariant.1 (sym c.is_text.ensures ∙ c.if-not-is_text.false))
 
 pub returns : goal.returns
 returns c =
     let a = c.args in
-    all_end (good_at a.offsets.now a.sizes.now a.bytes.now) _ c.loop-k.k c.loop-k.invariant.1 c.loop-k.invariant.0 c.loop-k-test.false
+    all_end (good_at a.l.offsets.now a.l.sizes.now a.l.bytes.now) _ c.loop-k.k c.loop-k.invariant.1 c.loop-k.invariant.0 c.loop-k-test.false

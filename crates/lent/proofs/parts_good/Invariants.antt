@@ -7,4 +7,4 @@ use Rattle.lent.proofs.TextLaws.{good_at}
 use Rattle.lent.proofs.parts_good.Given as goal
 
 abbrev pub invariant-loop-k : goal.invariant-loop-k
-invariant-loop-k l = (l.k ≤ length l.offsets) × (all_at (good_at l.offsets l.sizes l.bytes) l.k ≡ true)
+invariant-loop-k l = (l.k ≤ length l.l.offsets.now) × (all_at (good_at l.l.offsets.now l.l.sizes.now l.l.bytes.now) l.k ≡ true)

@@ -11,9 +11,6 @@ use Rattle.lent.proofs.rows_fit.Goals as goal
 pub loop-i-init : goal.loop-i-init
 loop-i-init c = (omega arith, all_start (short c.args.rows.now))
 
-pub overflow_cast-rows : goal.overflow_cast-rows
-overflow_cast-rows c = omega (arith, c.shared_slice_known-1.given c.loop-i.i)
-
 pub returns-then-rows-i-gt-PLANE_CELLS : goal.returns-then-rows-i-gt-PLANE_CELLS
 returns-then-rows-i-gt-PLANE_CELLS c =
     let r = c.args.rows.now in

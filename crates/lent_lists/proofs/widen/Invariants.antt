@@ -1,6 +1,6 @@
-use Prim.Native.Nat.{◌-◌}
-use Rattle.lent_lists.proofs.Widening.{Widening}
+use mathlib.Core.Path.{◌≡◌}
+use lib.ListN.{take}
 use Rattle.lent_lists.proofs.widen.Given as goal
 
-abbrev pub invariant-loop-i : goal.invariant-loop-i
-invariant-loop-i l = Widening l.s l.at l.end l.initial.into l.into l.i
+abbrev pub invariant-loop-b : goal.invariant-loop-b
+invariant-loop-b g l = l.wide.items ≡ take l.b-index l.list

@@ -1,5 +1,4 @@
 -- `lent_reports::put_lent_plane` meets its contract.
-use mathlib.Core.Path.{refl}
 use Rattle.lent.specs.Lent.{lists_of}
 use Rattle.lent.specs.LentPlane.{LentPlane}
 use Rattle.policies.specs.LentPolicy.{lent_policy}
@@ -21,21 +20,6 @@ told g c =
     let a = c.args in
     let l : LentPlane = lists_of a.l in
     end_reported lent_sizes (lent_policy l) _ _ _ _ _ record_bytes (lent_printable l) (search rules) (search rules) c.read_lent_plane-stated.ensures.end
-
-pub slice_bounds-read_lent_plane-end : goal.slice_bounds-read_lent_plane-end
-slice_bounds-read_lent_plane-end g c = refl
-
-pub slice_bounds-read_lent_plane-end-2 : goal.slice_bounds-read_lent_plane-end-2
-slice_bounds-read_lent_plane-end-2 g c = refl
-
-pub slice_bounds-read_lent_plane-end-3 : goal.slice_bounds-read_lent_plane-end-3
-slice_bounds-read_lent_plane-end-3 g c = refl
-
-pub slice_bounds-read_lent_plane-end-4 : goal.slice_bounds-read_lent_plane-end-4
-slice_bounds-read_lent_plane-end-4 g c = refl
-
-pub slice_bounds-read_lent_plane-end-5 : goal.slice_bounds-read_lent_plane-end-5
-slice_bounds-read_lent_plane-end-5 g c = refl
 
 pub put_outcome-requires : goal.put_outcome-requires
 put_outcome-requires g c = (search arith, (omega (arith, c.requires), omega (arith, c.read_lent_plane-stated.auto.out), (told g (goal.at.put_outcome-requires g c).After-read_lent_plane-stated).sound))

@@ -1,5 +1,5 @@
 use Rattle.numerals.proofs.NumberLaws.{Digits}
 use Rattle.numerals.proofs.unsigned_number.Given as goal
 
-abbrev pub invariant-loop-i : goal.invariant-loop-i
-invariant-loop-i l = Digits l.s l.from l.i l.a
+abbrev pub invariant-loop-c : goal.invariant-loop-c
+invariant-loop-c l = Digits l.s l.c-index l.a

@@ -22,14 +22,5 @@ returns-in-Split g c =
 pub returns-in-Drawing : goal.returns-in-Drawing
 returns-in-Drawing g c = (_, (by_kind c.args.text.now c.in-Drawing.is, c.put_drawing.ensures))
 
-pub returns-in-Plane : goal.returns-in-Plane
-returns-in-Plane g c = answered_as c.answer_lent.result _ _ c.answer_lent.ensures (sym (by_kind c.args.text.now c.in-Plane.is))
-
 pub returns-in-Sheet : goal.returns-in-Sheet
 returns-in-Sheet g c = (_, (by_kind c.args.text.now c.in-Sheet.is, written_within c.put_sheet.ensures (omega arith)))
-
-pub returns-in-Table : goal.returns-in-Table
-returns-in-Table g c = answered_as c.answer_lent-in-Table.result _ _ c.answer_lent-in-Table.ensures (sym (by_kind c.args.text.now c.in-Table.is))
-
-pub returns-in-Unknown : goal.returns-in-Unknown
-returns-in-Unknown g c = (by_kind c.args.text.now c.in-Unknown.is, refl)

@@ -1,5 +1,4 @@
 -- `reports::put_sheet` meets its contract.
-use mathlib.Core.Path.{refl}
 use Rattle.policies.specs.DrawnPolicy.{walked_policy}
 use Rattle.print.proofs.WrittenLaws.{written_as}
 use Rattle.builder.specs.SheetEnd.{sheet_sizes}
@@ -13,27 +12,6 @@ use Rattle.reports.proofs.put_sheet.Goals.{After-read_sheet-drawn}
 
 told : (g : Over) (c : After-read_sheet-drawn g) → Reported (walked_policy c.args.s.now) record_bytes c.read_sheet-drawn.result c.read_sheet-drawn.new.out
 told g c = end_reported sheet_sizes (walked_policy c.args.s.now) _ _ _ _ _ record_bytes (drawn_printable c.args.s.now) (search rules) (search rules) c.read_sheet-drawn.ensures.end
-
-pub slice_bounds-read_sheet-end : goal.slice_bounds-read_sheet-end
-slice_bounds-read_sheet-end g c = refl
-
-pub slice_bounds-read_sheet-end-2 : goal.slice_bounds-read_sheet-end-2
-slice_bounds-read_sheet-end-2 g c = refl
-
-pub slice_bounds-read_sheet-end-3 : goal.slice_bounds-read_sheet-end-3
-slice_bounds-read_sheet-end-3 g c = refl
-
-pub slice_bounds-read_sheet-end-4 : goal.slice_bounds-read_sheet-end-4
-slice_bounds-read_sheet-end-4 g c = refl
-
-pub slice_bounds-read_sheet-end-5 : goal.slice_bounds-read_sheet-end-5
-slice_bounds-read_sheet-end-5 g c = refl
-
-pub slice_bounds-read_sheet-end-6 : goal.slice_bounds-read_sheet-end-6
-slice_bounds-read_sheet-end-6 g c = refl
-
-pub slice_bounds-read_sheet-end-7 : goal.slice_bounds-read_sheet-end-7
-slice_bounds-read_sheet-end-7 g c = refl
 
 pub put_outcome-requires : goal.put_outcome-requires
 put_outcome-requires g c = (search arith, (omega (arith, c.requires), omega (arith, c.read_sheet-drawn.auto.out), (told g (goal.at.put_outcome-requires g c).After-read_sheet-drawn).sound))
