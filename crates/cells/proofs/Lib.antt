@@ -4,3 +4,4 @@ pub mod WriterLaws
 pub mod SpanLaws
 pub mod AmongLaws
 pub mod SpotLaws
+pub mod FillLaws

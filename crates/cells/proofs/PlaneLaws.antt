@@ -1,9 +1,11 @@
 -- A cell more in a row, a row more in a plane, and what a slice keeps.
 use mathlib.Core.Path.{◌≡◌, refl, sym, ap, ◌∙◌}
 use mathlib.Core.List.{List, [], ◌∷◌, ◌++◌}
+use mathlib.Core.Logic.{⊎_elim}
 use Prim.Native.Nat.{ℕ, ◌+◌, ◌≤◌, ◌<◌}
+use native.Mathlib.Nat.{eq-or-lt_of_le}
 use native.Mathlib.Omega.{arith}
-use lib.ListN.{length, get_or, set}
+use lib.ListN.{length, get_or, set, length-set}
 use lib.Seq.{get_or-set_same, get_or-set_other}
 use Rattle.lists.specs.Run.{build}
 use Rattle.lists.proofs.RunLaws.{build-next, build-same, get_or-build, length_run}
@@ -68,6 +70,9 @@ module _ (d : List ℕ) (row i v : ℕ) where
       let s : cells_in stored row i ≡ cells_in d row i = cells_same d stored row i (λ j k. get_or-set_other d (place_at row i) (place_at row j) v 0 (λ z. absurd (omega arith))) in
       cells-next stored row i ∙ rw (e, s)
 
+  pub stored_before : KeptBefore d stored row
+  stored_before = record { same = λ j l. get_or-set_other d (place_at row i) j v 0 (λ z. absurd (omega arith)) }
+
 -- what is kept before a row is kept of the rows above it
 module _ (d d' : List ℕ) (row : ℕ) (k : KeptBefore d d' row) where
   pub kept-plane : row ≤ plane_rows → ((j : ℕ) → j < row → get_or d j 0 ≤ plane_cells) → plane_in d' row ≡ plane_in d row
@@ -75,6 +80,18 @@ module _ (d d' : List ℕ) (row : ℕ) (k : KeptBefore d d' row) where
       plane-same d d' row (λ j l.
       let e : get_or d' j 0 ≡ get_or d j 0 = k.same j (omega arith) in
       rw e (cells_same d d' j (get_or d j 0) (λ i m. k.same (place_at j i) (omega (arith, f j l)))))
+
+  pub kept-fits : length d' ≡ length d → PlaneFits d row → PlaneFits d' row
+  kept-fits e p =
+      record {
+        room = rw e p.room;
+        rows = p.rows;
+        cells = λ j l. let z : get_or d' j 0 ≡ get_or d j 0 = k.same j (omega (arith, p.rows)) in rw z (p.cells j l);
+      }
+
+-- the first rows of a plane are a plane
+pub fewer_rows : (d : List ℕ) (m n : ℕ) → m ≤ n → PlaneFits d n → PlaneFits d m
+fewer_rows d m n h p = record { room = p.room; rows = omega (arith, p.rows); cells = λ row l. p.cells row (omega arith) }
 
 pub kept_refl : (d : List ℕ) (row : ℕ) → KeptBefore d d row
 kept_refl d row = record { same = λ j l. refl }
@@ -99,3 +116,13 @@ module _ (d : List ℕ) (row n : ℕ) (p : PlaneFits d row) (r : row < plane_row
       let z : get_or ended j 0 ≡ get_or d j 0 = beside j (λ y. absurd (omega arith)) in
       rw z (cells_same d ended j (get_or d j 0) (λ i m. beside (place_at j i) (λ y. absurd (omega arith))))) in
       plane-next ended row ∙ rw (a, b)
+
+  ended-length : (j : ℕ) → j ≤ row → get_or ended j 0 ≤ plane_cells
+  ended-length j l =
+      ⊎_elim
+      (λ e. let z : get_or ended j 0 ≡ n = rw e (get_or-set_same d row n 0 (omega (arith, p.room))) in rw z h)
+      (λ k. let z : get_or ended j 0 ≡ get_or d j 0 = beside j (λ y. absurd (omega arith)) in rw z (p.cells j k))
+      (eq-or-lt_of_le l)
+
+  pub ended-fits : PlaneFits ended (row + 1)
+  ended-fits = record { room = rw (length-set d row n) p.room; rows = omega arith; cells = λ j l. ended-length j (omega arith) }
