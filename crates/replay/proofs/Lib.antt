@@ -1,4 +1,3 @@
 -- Laws of lines that are answered.
 pub mod KindLaws
-pub mod LentLaws
 pub mod Replaying

@@ -1,10 +1,10 @@
 -- `replay::answer_text` meets its contract.
-use mathlib.Core.Path.{refl, sym, ap}
+use mathlib.Core.Path.{sym, ap}
 use Prim.Native.Nat.{ℕ}
 use lib.ListN.{length-replicate}
 use Rattle.print.proofs.WrittenLaws.{written_as, written_within}
 use Rattle.answers.specs.SplitLines.{split_line}
-use Rattle.replay.proofs.Replaying.{by_kind, answered_as}
+use Rattle.replay.proofs.Replaying.{by_kind}
 use native.Mathlib.Omega.{arith}
 use Rattle.replay.proofs.answer_text.Goals as goal
 
