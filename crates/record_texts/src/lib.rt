@@ -1,4 +1,5 @@
 // The texts of a table record, written to its slice with their slots: packed in slot order.
+// The record's slice comes with its places, as `record` says.
 #![tactic(auto)]
 
 ghost use Rattle.std.specs.Prelude.{[], ◌∷◌, ◌≡◌, ◌+◌, ◌*◌, ◌<◌, ◌≤◌, ◌^◌, length, take, drop};

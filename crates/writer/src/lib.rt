@@ -1,4 +1,5 @@
 // A table's record, written from slots. A slot names a text: none, a part of the bytes, or the allowed values of a part.
+// The record's slice comes with its places, as `record` says.
 #![tactic(auto)]
 
 ghost use Rattle.std.specs.Prelude.{ℕ, [], ◌∷◌, ◌≡◌, ◌+◌, ◌*◌, ◌≤◌, ◌<◌, length};
