@@ -1,5 +1,5 @@
 // A record's lines, from its bytes.
-// Places are indices into the whole text, as in `utf8`.
+// Places are indices into the whole record: its words tell them.
 #![tactic(auto)]
 
 ghost use Rattle.std.specs.Prelude.{◌≡◌, ◌+◌, ◌*◌, ◌≤◌, ◌<◌, length, take, drop};
