@@ -20,7 +20,8 @@ fn strip_start<'a>(p: &'a [u8], e: &[u8]) -> &'a [u8]
     left
 }
 
-// p without all repetitions of e at the end.
+// p without all repetitions of e at the end. It differs from `strip_start` in the library's method alone; handed on, that would be a
+// closure over e, whose step no contract here can name.
 fn strip_end<'a>(p: &'a [u8], e: &[u8]) -> &'a [u8]
     requires { 0 < length e.now }
     ensures { result.now ≡ strip_end (length p.now) e.now p.now }
