@@ -16,18 +16,14 @@ fn word_at(bytes: &[u8], at: usize) -> usize
     requires { at + 4 ≤ length bytes.now }
     ensures { result ≡ word_at bytes.now at }
 {
-    let a = usize::from(bytes[at]);
-    let b = usize::from(bytes[at + 1]);
-    let c = usize::from(bytes[at + 2]);
-    let d = usize::from(bytes[at + 3]);
-    a + 256 * b + 65536 * c + 16777216 * d
+    u32::from_le_bytes([bytes[at], bytes[at + 1], bytes[at + 2], bytes[at + 3]]) as usize
 }
 
 // Whether a slot of this offset and length is absent.
 fn is_absent(offset: usize, size: usize) -> bool
     ensures { result ≡ is_absent offset size }
 {
-    if offset == 0 { size == 0 } else { false }
+    offset == 0 && size == 0
 }
 
 // The word at index `k`, behind a name.
