@@ -119,8 +119,7 @@ pub fn put_regions<const N: usize>(out: &mut ArrayVec<u8, N>, rects: Rects, text
     }
 }
 
-// `named` is a fact of the drawing.
-// The name of a table, which is the text of its first region.
+// The name of a table, which is the text of its first region if `named`: that text stands in `texts` either way, as `tables` says.
 pub fn put_name<const N: usize>(out: &mut ArrayVec<u8, N>, texts: Texts, named: bool)
     requires { (array_vec_len out.old + name_bytes ≤ N) × Few texts }
     ensures { Written out.old.items out.new.items (name_line named (texts_of texts.entry)) name_bytes }
