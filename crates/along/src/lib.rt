@@ -9,8 +9,8 @@ ghost use Rattle.walks.specs.Spots.{from_spot};
 ghost use Rattle.walks.specs.declared.Direction.{Direction};
 ghost use Rattle.along.specs.Characters.{toward, searched_of, allowed_of, along_of};
 
-use model::box_drawing::*;
 use model::Refusal;
+use model::box_drawing::*;
 use sets::*;
 use walks::spot::Spot;
 use walks::{Characters, Direction, Set};

@@ -10,8 +10,8 @@ ghost use Rattle.cursors.specs.Cursor.{onward, place_after, Onward};
 use along::Lines;
 use model::layer::Layer;
 use model::{Point, Refusal};
-use walks::spot::Spot;
 use walks::Direction;
+use walks::spot::Spot;
 
 // The place k steps on.
 fn onward(d: Direction, at: Point, k: usize) -> Point
