@@ -11,7 +11,7 @@ pub mod limits;
 pub mod numbering;
 
 // A place on a canvas: column x of row y.
-#[derive(Clone, Copy, Debug, PartialEq, Eq)]
+#[derive(Clone, Copy, PartialEq, Eq)]
 pub struct Point {
     pub x: usize,
     pub y: usize,
@@ -32,7 +32,7 @@ impl Point {
 }
 
 // A rectangle; right and bottom are exclusive.
-#[derive(Clone, Copy, Debug, PartialEq, Eq)]
+#[derive(Clone, Copy)]
 pub struct Rect {
     pub left: usize,
     pub top: usize,
@@ -84,7 +84,7 @@ impl Rect {
 }
 
 // What becomes of several matching rules' outputs under the policy COLLECT.
-#[derive(Clone, Copy, Debug, PartialEq, Eq)]
+#[derive(Clone, Copy)]
 pub enum BuiltinAggregator {
     List,
     Count,
@@ -93,7 +93,7 @@ pub enum BuiltinAggregator {
     Max,
 }
 
-#[derive(Clone, Copy, Debug, PartialEq, Eq)]
+#[derive(Clone, Copy)]
 pub enum HitPolicy {
     Unique,
     Any,
@@ -105,14 +105,14 @@ pub enum HitPolicy {
 }
 
 // Whether rules are rows or columns. (Crosstab sheets are refused.)
-#[derive(Clone, Copy, Debug, PartialEq, Eq)]
+#[derive(Clone, Copy)]
 pub enum Orientation {
     RulesAsRows,
     RulesAsColumns,
 }
 
 // Where the hit policy stands in a plane.
-#[derive(Clone, Copy, Debug, PartialEq, Eq)]
+#[derive(Clone, Copy)]
 pub enum HitPolicyPlacement {
     TopLeft(HitPolicy),
     BottomLeft(HitPolicy),
@@ -120,7 +120,7 @@ pub enum HitPolicyPlacement {
 }
 
 // Where the rule numbers stand in a plane, and how many there are.
-#[derive(Clone, Copy, Debug, PartialEq, Eq)]
+#[derive(Clone, Copy)]
 pub enum RuleNumbersPlacement {
     LeftBelow(u64),
     RightAfter(u64),
@@ -128,7 +128,7 @@ pub enum RuleNumbersPlacement {
 }
 
 // A cell of a plane: a region by its number, a double line, or a crossing of double lines.
-#[derive(Clone, Copy, Debug, PartialEq, Eq)]
+#[derive(Clone, Copy)]
 pub enum Cell {
     Region(u32),
     VerticalOutputDoubleLine,
@@ -141,7 +141,7 @@ pub enum Cell {
 }
 
 // Why a sheet, a lent plane or a text is refused.
-#[derive(Clone, Copy, Debug, PartialEq, Eq)]
+#[derive(Clone, Copy)]
 pub enum Refusal {
     InvalidUtf8(usize),
     CanvasTooLarge(usize, usize),
@@ -174,7 +174,7 @@ pub enum Refusal {
 }
 
 // A refusal as document 01 numbers it: N, A, B.
-#[derive(Clone, Copy, Debug, PartialEq, Eq)]
+#[derive(Clone, Copy)]
 pub struct Numbers {
     pub n: u64,
     pub a: u64,
@@ -221,7 +221,7 @@ impl From<Orientation> for u32 {
 }
 
 impl Cell {
-    // The number of a cell's kind, by which two are compared: `==` tells two regions apart, which are of one kind.
+    // The number of a cell's kind, by which two are compared: two regions are of one kind.
     fn kind(self) -> u32
         ensures { result ≡ kind_of self }
     {

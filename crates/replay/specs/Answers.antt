@@ -1,9 +1,7 @@
 -- The answers to lines.
 use Rattle.std.specs.Prelude.{Bool, true, false, List, [], ◌∷◌, ◌++◌, ◌⊎◌, ◌≡◌, ℕ, ◌+◌, ◌<◌, length, drop, Option, None, Some}
 use Rattle.std.specs.Option.{option_map}
-use Rattle.lent.specs.LentPlane.{LentPlane}
 use Rattle.policies.specs.DrawnPolicy.{walked_policy}
-use Rattle.policies.specs.LentPolicy.{lent_policy}
 use Rattle.print.specs.Decimal.{Written}
 use Rattle.print.specs.Lines.{line_feed}
 use Rattle.lent_lists.specs.LentText.{◌>>=◌, lent_in}
@@ -11,8 +9,9 @@ use Rattle.lines.specs.Texts.{before, text_of}
 use Rattle.drawings.specs.DrawingLines.{drawing_lines}
 use Rattle.lines.specs.Room.{line_bytes}
 use Rattle.answers.specs.SplitLines.{split_line}
-use Rattle.answers.specs.LentLines.{lent_lines}
 use Rattle.outcome_lines.specs.PolicyLines.{record_bytes, policy_lines}
+use Rattle.lent_answers.specs.Lines.{lines_by}
+use Rattle.lent_answers.specs.declared.Asked.TheVariants.{Upright, Record}
 use Rattle.replay.specs.Kinds.{kind_of, word_of, rest_of}
 use Rattle.replay.specs.declared.Kind.{Kind}
 use Rattle.replay.specs.declared.Kind.TheVariants.{Split, Drawing, Plane, Sheet, Table}
@@ -21,17 +20,13 @@ use Rattle.replay.specs.declared.Kind.TheVariants.{Split, Drawing, Plane, Sheet,
 abbrev pub sheet_lines : List ℕ → List ℕ
 sheet_lines s = policy_lines record_bytes (walked_policy s)
 
--- the lines of the record of a lent plane's table, or of its refusal
-abbrev pub table_lines : LentPlane → List ℕ
-table_lines l = policy_lines record_bytes (lent_policy l)
-
 -- the answer to a text by its kind, with a scratch slice of so many bytes
 abbrev pub text_answer : Kind → ℕ → List ℕ → Option (List ℕ)
 text_answer Split room t = Some (split_line room t)
 text_answer Drawing room t = Some (drawing_lines t)
-text_answer Plane room t = option_map lent_lines (lent_in t)
+text_answer Plane room t = option_map (lines_by Upright) (lent_in t)
 text_answer Sheet room t = Some (sheet_lines t)
-text_answer Table room t = option_map table_lines (lent_in t)
+text_answer Table room t = option_map (lines_by Record) (lent_in t)
 
 -- the answer to what stands behind a kind: the text there may be absent
 abbrev pub answer_by : Kind → ℕ → List ℕ → Option (List ℕ)
