@@ -1,7 +1,8 @@
 // Cells that are added to a row of a plane.
 #![tactic(auto)]
 
-ghost use Rattle.std.specs.Prelude.{◌≡◌, ◌≤◌, ◌<◌, length};
+ghost use Rattle.std.specs.Prelude.{Some, ◌≡◌, ◌≤◌, ◌<◌, length};
+ghost use Rattle.lists.specs.Choose.{choose};
 ghost use Rattle.model.specs.Limits.{plane_size, region_count};
 ghost use Rattle.cells.specs.Plane.{KeptBefore};
 ghost use Rattle.plane_cells.specs.Row.{is_at, with_cell, fitting};
@@ -30,6 +31,13 @@ pub struct Doubles {
 pub struct RowSofar {
     pub cells: usize,
     pub doubles: Doubles,
+}
+
+// The column of a double line: where it stands now, or where the last row that had it has it.
+fn column_of(is_here: bool, column: usize, last: Option<usize>) -> Option<usize>
+    ensures { result ≡ choose is_here (Some column) last }
+{
+    if is_here { Some(column) } else { last }
 }
 
 // The cell of a frame in column x, of a region, behind the double lines left of it.
@@ -65,14 +73,11 @@ pub fn add_cells(
     }
     cells::put_cell(plane, row, b, Cell::Region(region as u32));
     let last = s.doubles;
-    let output = if is_output { Some(from) } else { last.output };
-    let annotation = if is_annotation {
-        Some(a)
-    } else {
-        last.annotation
-    };
     Ok(RowSofar {
         cells: b + 1,
-        doubles: Doubles { output, annotation },
+        doubles: Doubles {
+            output: column_of(is_output, from, last.output),
+            annotation: column_of(is_annotation, a, last.annotation),
+        },
     })
 }

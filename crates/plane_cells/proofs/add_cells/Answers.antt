@@ -1,5 +1,4 @@
 -- `plane_cells::add_cells` meets its contract.
-use Rattle.std.specs.Prelude.{Some}
 use mathlib.Core.Path.{◌≡◌, ap, ◌∙◌}
 use mathlib.Core.Bool.{Bool}
 use mathlib.Core.List.{[], ◌∷◌, ◌++◌}
@@ -13,7 +12,7 @@ use Rattle.cells.specs.Plane.{cells_in}
 use Rattle.plane_cells.specs.Row.{is_at}
 use Rattle.plane_cells.proofs.CellLaws.{one_if, line_there, no_line, cells_over, cells_added}
 use Rattle.plane_cells.proofs.add_cells.Goals as goal
-use Rattle.plane_cells.proofs.add_cells.Goals.{After-from-2, Joined-is_annotation-2, then-is_output, else-is_output, then-is_annotation, else-is_annotation, then-is_output-2, else-is_output-2, then-is_annotation-2, else-is_annotation-2}
+use Rattle.plane_cells.proofs.add_cells.Goals.{After-from-2, Joined-is_annotation, then-is_output, else-is_output, then-is_annotation, else-is_annotation}
 
 output_one : (c : After-from-2) → c.from.result ≡ choose (eqb c.args.x c.args.o.x) 1 0
 output_one c = c.from.ensures ∙ one_if _
@@ -26,7 +25,7 @@ returns-then-b-ge-PLANE_CELLS-clause-made c =
     let k = (goal.at.returns-then-b-ge-PLANE_CELLS-clause-made c).After-from-2 in
     cells_over c.args.o c.args.x c.args.region c.args.row c.args.s c.args.plane.now c.if-row-ge-PLANE_ROWS.false (omega (arith, output_one k, annotation_one k, c.if-b-ge-PLANE_CELLS.true))
 
-output_line : (c : Joined-is_annotation-2) → cells_in c.if-is_output.plane c.args.row (c.args.s.cells + c.from.result)
+output_line : (c : Joined-is_annotation) → cells_in c.if-is_output.plane c.args.row (c.args.s.cells + c.from.result)
     ≡ cells_in c.args.plane.now c.args.row c.args.s.cells ++ choose (eqb c.args.x c.args.o.x) (VerticalOutputDoubleLine ∷ []) []
 output_line c =
     elim c.if-is_output.branch [
@@ -34,7 +33,7 @@ output_line c =
       | else-is_output w ↦ rw w.plane-is (no_line _ _ _ _ _ _ c.from.ensures (ne_eqb _ _ w.if-is_output.false))
     ]
 
-annotation_line : (c : Joined-is_annotation-2) → cells_in c.if-is_annotation.plane c.args.row (c.args.s.cells + c.from.result + c.from-2.result)
+annotation_line : (c : Joined-is_annotation) → cells_in c.if-is_annotation.plane c.args.row (c.args.s.cells + c.from.result + c.from-2.result)
     ≡ cells_in c.if-is_output.plane c.args.row (c.args.s.cells + c.from.result) ++ choose c.is_at-is_annotation.result (VerticalAnnotationDoubleLine ∷ []) []
 annotation_line c =
     elim c.if-is_annotation.branch [
@@ -42,23 +41,10 @@ annotation_line c =
       | else-is_annotation w ↦ rw w.plane-is (no_line _ _ _ _ _ _ c.from-2.ensures w.if-is_annotation.false)
     ]
 
-output_column : (c : Joined-is_annotation-2) → c.if-is_output-2.output ≡ choose (eqb c.args.x c.args.o.x) (Some c.args.s.cells) c.args.s.doubles.output
-output_column c =
-    elim c.if-is_output-2.branch [
-      | then-is_output-2 w ↦ w.output-is ∙ rw (eq-eqb _ _ w.if-is_output-2.true)
-      | else-is_output-2 w ↦ w.output-is ∙ rw (ne_eqb _ _ w.if-is_output-2.false)
-    ]
-
-annotation_column : (c : Joined-is_annotation-2) → c.if-is_annotation-2.annotation ≡ choose c.is_at-is_annotation.result (Some (c.args.s.cells + c.from.result)) c.args.s.doubles.annotation
-annotation_column c =
-    elim c.if-is_annotation-2.branch [
-      | then-is_annotation-2 w ↦ w.annotation-is ∙ rw w.if-is_annotation-2.true
-      | else-is_annotation-2 w ↦ w.annotation-is ∙ rw w.if-is_annotation-2.false
-    ]
-
 pub returns-clause-made : goal.returns-clause-made
 returns-clause-made c =
     let k = (goal.at.returns-clause-made c).After-from-2 in
+    let j = (goal.at.returns-clause-made c).Joined-is_annotation in
     cells_added c.args.o c.args.x c.args.region c.args.row c.args.s c.args.plane.now c.is_at-is_annotation.result c.is_at-is_annotation.ensures c.if-row-ge-PLANE_ROWS.false
     (omega (arith, c.if-b-ge-PLANE_CELLS.false, output_one k, annotation_one k)) (c.args.s.cells + c.from.result) (c.args.s.cells + c.from.result + c.from-2.result) _ _ _
-    (output_line c) (annotation_line c) c.put_cell-2.ensures.cells (output_column c) (annotation_column c)
+    (output_line j) (annotation_line j) c.put_cell-2.ensures.cells c.column_of.ensures c.column_of-2.ensures
