@@ -7,12 +7,12 @@ use Rattle.model.specs.Policies.{policy_number, orientation_number}
 use Rattle.model.specs.Refusals.{numbers, Reading}
 use Rattle.model.specs.declared.Refusal.{Refusal}
 use Rattle.cells.specs.Plane.{Plane, plane_in, PlaneFits}
-use Rattle.lent.specs.LentPlane.{LentPlane}
+use Rattle.plane.specs.lent.LentPlane.{LentPlane}
 use Rattle.plane.specs.LentSheet.{lent_sheet}
 use Rattle.plane.specs.Stated.{stated_in, StatedHeld}
 use Rattle.plane.specs.declared.Stated.{Stated}
 use Rattle.print.specs.Lines.{refused_line}
-use Rattle.plane_lines.specs.Planes.{upright_lines}
+use Rattle.answers.specs.plane_lines.Planes.{upright_lines}
 use Rattle.answers.specs.LentLines.{sheet_printed, lent_lines}
 
 -- the numbers of an upright sheet, by other names

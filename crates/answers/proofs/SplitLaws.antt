@@ -6,7 +6,7 @@ use Prim.Native.Nat.{ℕ, ◌-◌, ◌≤◌}
 use native.Mathlib.Omega.{arith}
 use lib.ListN.{length, take, drop, length-take, length-drop}
 use Rattle.model.specs.Refusals.{Reading}
-use Rattle.utils.specs.Split.{answered, Places}
+use Rattle.values.specs.utils.Split.{answered, Places}
 use Rattle.values.specs.declared.Rewritten.{Rewritten}
 use Rattle.print.specs.Lines.{values_line}
 use Rattle.answers.specs.SplitLines.{printed}

@@ -2,11 +2,11 @@
 use Rattle.std.specs.Prelude.{List, ℕ, Ok, Err}
 use Rattle.model.specs.Policies.{policy_number, orientation_number}
 use Rattle.model.specs.Refusals.{Reading, numbers}
-use Rattle.lent.specs.LentPlane.{LentPlane}
+use Rattle.plane.specs.lent.LentPlane.{LentPlane}
 use Rattle.plane.specs.LentSheet.{lent_sheet}
 use Rattle.plane.specs.Sheet.{Sheet}
 use Rattle.print.specs.Lines.{refused_line}
-use Rattle.plane_lines.specs.Planes.{upright_lines}
+use Rattle.answers.specs.plane_lines.Planes.{upright_lines}
 
 -- the upright sheet, or why there is none
 abbrev pub sheet_printed : Reading Sheet → List ℕ

@@ -2,7 +2,7 @@
 use Rattle.std.specs.Prelude.{List, [], ◌∷◌, ℕ, Option, None, Some, Ok, Err}
 use Rattle.model.specs.Refusals.{Reading, numbers}
 use Rattle.values.specs.Values.{Values}
-use Rattle.utils.specs.Split.{split_of}
+use Rattle.values.specs.utils.Split.{split_of}
 use Rattle.print.specs.Lines.{line_feed, values_line, refused_line}
 
 -- "own" and a line feed

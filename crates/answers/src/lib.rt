@@ -1,24 +1,31 @@
 // What is printed for a text of the value split and for a lent plane, as the judge of the Rust prints it.
 #![tactic(auto)]
 
+pub mod drawings;
+pub mod lent_answers;
+pub mod lent_lists;
+pub mod lines;
+pub mod plane_lines;
+pub mod sketch;
+
 ghost use Rattle.std.specs.Prelude.{◌+◌, ◌≤◌, length};
 ghost use Rattle.model.specs.Limits.{text_bytes};
 ghost use Rattle.model.specs.Policies.{policy_number, orientation_number};
-ghost use Rattle.utils.specs.Split.{answered, Places};
+ghost use Rattle.values.specs.utils.Split.{answered, Places};
 ghost use Rattle.arrayvec.specs.ArrayVec.{array_vec_len};
 ghost use Rattle.cells.specs.Plane.{plane_in, PlaneFits};
 ghost use Rattle.print.specs.Decimal.{Written};
-ghost use Rattle.plane_lines.specs.Planes.{upright_lines, upright_bytes};
-ghost use Rattle.lines.specs.Room.{line_bytes};
-ghost use Rattle.lent.specs.Lent.{lists_of};
+ghost use Rattle.answers.specs.plane_lines.Planes.{upright_lines, upright_bytes};
+ghost use Rattle.answers.specs.lines.Room.{line_bytes};
+ghost use Rattle.plane.specs.lent.Lent.{lists_of};
 ghost use Rattle.answers.specs.SplitLines.{printed, split_line};
 ghost use Rattle.answers.specs.LentLines.{lent_lines};
 
 use arrayvec::ArrayVec;
 use cells::plane::Plane;
-use lent::Lent;
 use model::Refusal;
 use plane::Stated;
+use plane::lent::Lent;
 use values::Rewritten;
 
 // What the split answered.
@@ -43,7 +50,7 @@ pub fn put_split_line<const N: usize>(out: &mut ArrayVec<u8, N>, text: &[u8], sc
     requires { (array_vec_len out.old + line_bytes ≤ N) × (length text.now ≤ text_bytes) × (length scratch.old ≤ text_bytes) }
     ensures { Written out.old.items out.new.items (split_line (length scratch.old) text.now) line_bytes }
 {
-    let s = utils::split_values(text, scratch);
+    let s = values::utils::split_values(text, scratch);
     put_split(out, text, scratch, s);
 }
 
@@ -52,7 +59,7 @@ fn put_stated<const N: usize>(out: &mut ArrayVec<u8, N>, s: Stated, upright: &[u
     requires { (array_vec_len out.old + upright_bytes ≤ N) × PlaneFits upright.now s.rows }
     ensures { Written out.old.items out.new.items (upright_lines (orientation_number s.orientation) (policy_number s.policy) s.rules (plane_in upright.now s.rows)) upright_bytes }
 {
-    plane_lines::put_upright(
+    crate::plane_lines::put_upright(
         out,
         u32::from(s.orientation),
         u32::from(s.policy),

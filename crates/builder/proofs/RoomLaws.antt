@@ -2,9 +2,9 @@
 use mathlib.Core.List.{List, [], ◌∷◌, map}
 use Prim.Native.Nat.{ℕ}
 use lib.ListN.{length}
-use Rattle.room.specs.Room.{Roomy}
-use Rattle.room.proofs.RoomLaws.{at_least}
-use Rattle.drawn_planes.specs.DrawnTable.{DrawnRoom}
+use Rattle.builder.specs.room.Room.{Roomy}
+use Rattle.builder.proofs.room.RoomLaws.{at_least}
+use Rattle.policies.specs.drawn_planes.DrawnTable.{DrawnRoom}
 use Rattle.builder.specs.SheetEnd.{sheet_sizes}
 
 -- the slices of a drawing's table

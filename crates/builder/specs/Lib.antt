@@ -1,1 +1,5 @@
 pub mod SheetEnd
+pub mod room
+pub mod ends
+pub mod lent_builder
+pub mod numbers

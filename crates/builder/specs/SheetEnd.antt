@@ -1,7 +1,7 @@
 -- The whole reader. docs/SLICES.md lists its slices.
 use Rattle.std.specs.Prelude.{List, [], ◌∷◌, ℕ}
 use Rattle.policies.specs.DrawnPolicy.{walked_policy}
-use Rattle.ends.specs.Ends.{End, end_of}
+use Rattle.builder.specs.ends.Ends.{End, end_of}
 
 -- the constants of the whole reader: TEXT, THIN, BODY, GRID, spans, texts
 abbrev pub sheet_sizes : List ℕ

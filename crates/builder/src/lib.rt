@@ -3,8 +3,13 @@
 // still lends the same ones, which of parameters is known.
 #![tactic(auto)]
 
+pub mod ends;
+pub mod lent_builder;
+pub mod numbers;
+pub mod room;
+
 ghost use Rattle.std.specs.Prelude.{[], ◌∷◌, ◌≡◌};
-ghost use Rattle.room.specs.Room.{Roomy};
+ghost use Rattle.builder.specs.room.Room.{Roomy};
 ghost use Rattle.builder.specs.SheetEnd.{sheet_sizes, sheet_end};
 
 use model::Refusal;
@@ -26,8 +31,8 @@ fn sheet_cleared(
     requires { Roomy (text.old ∷ thins.old ∷ bodies.old ∷ grid.old ∷ spans.old ∷ bytes.old ∷ []) sheet_sizes }
     ensures end { sheet_end s.now (text.old ∷ thins.old ∷ bodies.old ∷ grid.old ∷ spans.old ∷ bytes.old ∷ []) out.old ≡ record { outcome = result; works = text.new ∷ thins.new ∷ bodies.new ∷ grid.new ∷ spans.new ∷ bytes.new ∷ []; out = out.new } }
 {
-    let r = drawn_records::sheet_record(s, text, thins, bodies, grid, spans, bytes, out);
-    ends::clear_four(text, thins, bodies, grid);
+    let r = policies::drawn_records::sheet_record(s, text, thins, bodies, grid, spans, bytes, out);
+    crate::ends::clear_four(text, thins, bodies, grid);
     lists::fill(spans, 0);
     lists::fill(bytes, 0);
     r
@@ -55,6 +60,6 @@ pub fn read_sheet(
         bytes.len(),
     ];
     let sizes = SHEET_SIZES;
-    room::work_slices(&lens, &sizes)?;
+    crate::room::work_slices(&lens, &sizes)?;
     sheet_cleared(s, text, thins, bodies, grid, spans, bytes, out)
 }

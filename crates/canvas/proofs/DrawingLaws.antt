@@ -11,19 +11,19 @@ use Rattle.model.specs.declared.Rect.{Rect}
 use Rattle.model.specs.Refusals.{Reading}
 use Rattle.model.specs.declared.Refusal.{Refusal}
 use Rattle.model.specs.declared.Refusal.TheVariants.{InvalidUtf8}
-use Rattle.body_layer.specs.Body.{body_picture}
-use Rattle.grid_layer.specs.Grid.{grid_picture}
-use Rattle.thin_layer.specs.Sizes.{BodyIn}
-use Rattle.thin_layer.specs.Thin.{thin_picture}
-use Rattle.outline.specs.Outline.{outline_of}
-use Rattle.outline.specs.declared.Outline.{Outline}
-use Rattle.outline.proofs.InsideLaws.{outline_inside}
-use Rattle.sheet_rows.specs.Rows.{rows_at, widest}
-use Rattle.sheet_rows.specs.declared.Extent.{Extent}
+use Rattle.canvas.specs.body_layer.Body.{body_picture}
+use Rattle.canvas.specs.grid_layer.Grid.{grid_picture}
+use Rattle.canvas.specs.thin_layer.Sizes.{BodyIn}
+use Rattle.canvas.specs.thin_layer.Thin.{thin_picture}
+use Rattle.frames.specs.outline.Outline.{outline_of}
+use Rattle.frames.specs.declared.outline.Outline.{Outline}
+use Rattle.frames.proofs.outline.InsideLaws.{outline_inside}
+use Rattle.scan.specs.sheet_rows.Rows.{rows_at, widest}
+use Rattle.scan.specs.declared.sheet_rows.Extent.{Extent}
 use Rattle.scan.specs.Canvas.{size_of, text_in, blanks_in, scanned_in}
 use Rattle.scan.proofs.Answers.{scanned_size, fits-size}
 use Rattle.scan.proofs.TextLayer.{text-canvas, blanks_canvas}
-use Rattle.utf8.specs.Utf8.{checked, on_text}
+use Rattle.characters.specs.utf8.Utf8.{checked, on_text}
 use Rattle.walks.specs.Frame.{frame_of}
 use Rattle.canvas.specs.Layers.{text_layer, drawing_by, drawing_of, sheet_by, sheet_of}
 use Rattle.canvas.specs.Drawn.{Shown}

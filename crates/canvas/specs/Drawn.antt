@@ -4,10 +4,10 @@ use Rattle.lists.specs.Picture.{canvas}
 use Rattle.model.specs.Limits.{canvas_size}
 use Rattle.model.specs.Refusals.{Reading}
 use Rattle.model.specs.declared.Rect.{Rect}
-use Rattle.outline.specs.declared.Outline.{Outline}
-use Rattle.sheet_rows.specs.Rows.{widest}
-use Rattle.sheet_rows.specs.Sheet.{rest_of}
-use Rattle.utf8.specs.Utf8.{codes}
+use Rattle.frames.specs.declared.outline.Outline.{Outline}
+use Rattle.scan.specs.sheet_rows.Rows.{widest}
+use Rattle.scan.specs.sheet_rows.Sheet.{rest_of}
+use Rattle.characters.specs.utf8.Utf8.{codes}
 use Rattle.canvas.specs.Layers.{text_layer, thin_layer, body_layer, grid_layer}
 use Rattle.canvas.specs.declared.Drawing.{Drawing}
 

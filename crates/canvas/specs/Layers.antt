@@ -5,15 +5,15 @@ use Rattle.lists.specs.Picture.{Picture, canvas}
 use Rattle.model.specs.Refusals.{Reading}
 use Rattle.model.specs.declared.Rect.{Rect}
 use Rattle.model.specs.declared.Refusal.TheVariants.{InvalidUtf8}
-use Rattle.body_layer.specs.Body.{body_picture}
-use Rattle.grid_layer.specs.Grid.{grid_picture}
-use Rattle.thin_layer.specs.Thin.{thin_picture}
-use Rattle.outline.specs.Outline.{outline_by}
-use Rattle.outline.specs.declared.Outline.{Outline}
-use Rattle.sheet_rows.specs.Rows.{rows_at, widest}
+use Rattle.canvas.specs.body_layer.Body.{body_picture}
+use Rattle.canvas.specs.grid_layer.Grid.{grid_picture}
+use Rattle.canvas.specs.thin_layer.Thin.{thin_picture}
+use Rattle.frames.specs.outline.Outline.{outline_by}
+use Rattle.frames.specs.declared.outline.Outline.{Outline}
+use Rattle.scan.specs.sheet_rows.Rows.{rows_at, widest}
 use Rattle.scan.specs.Canvas.{size_of}
 use Rattle.scan.specs.Rows.{blank, flat}
-use Rattle.utf8.specs.Utf8.{checked, on_text}
+use Rattle.characters.specs.utf8.Utf8.{checked, on_text}
 use Rattle.walks.specs.Frame.{FrameFinder, frame_of}
 
 -- TEXT: the rows, each filled to the longest

@@ -1,21 +1,25 @@
 // From the bytes of a sheet to its outline and its four layers.
 #![tactic(auto)]
 
+pub mod body_layer;
+pub mod grid_layer;
+pub mod thin_layer;
+
 ghost use Rattle.std.specs.Prelude.{◌≡◌, ◌*◌, ◌≤◌, length};
 ghost use Rattle.lists.specs.Picture.{canvas};
-ghost use Rattle.body_layer.specs.Body.{body_picture};
-ghost use Rattle.grid_layer.specs.Grid.{grid_picture};
+ghost use Rattle.canvas.specs.body_layer.Body.{body_picture};
+ghost use Rattle.canvas.specs.grid_layer.Grid.{grid_picture};
 ghost use Rattle.model.specs.Layers.{picture_of};
-ghost use Rattle.thin_layer.specs.Sizes.{BodyIn};
-ghost use Rattle.thin_layer.specs.Thin.{thin_picture};
-ghost use Rattle.sheet_rows.specs.Rows.{rows_at};
-ghost use Rattle.utf8.specs.Utf8.{on_text};
+ghost use Rattle.canvas.specs.thin_layer.Sizes.{BodyIn};
+ghost use Rattle.canvas.specs.thin_layer.Thin.{thin_picture};
+ghost use Rattle.scan.specs.sheet_rows.Rows.{rows_at};
+ghost use Rattle.characters.specs.utf8.Utf8.{on_text};
 ghost use Rattle.canvas.specs.Layers.{sheet_of};
 ghost use Rattle.canvas.specs.Drawn.{outline_in, LayersIn, Ended, Room};
 
+use frames::outline::Outline;
 use model::layer::Layer;
 use model::{Rect, Refusal};
-use outline::Outline;
 
 // A canvas's rows and columns, where the text behind the sheet starts, and the outline.
 #[derive(Clone, Copy)]
@@ -34,19 +38,19 @@ fn make_layers(text: Layer, thins: &mut [u32], bodies: &mut [u32], grid: &mut [u
     ensures body { canvas text.entry.width text.entry.height bodies.new ≡ body_picture r (thin_picture text.entry.width text.entry.height (picture_of text.entry)) (canvas text.entry.width text.entry.height bodies.old) }
     ensures grid { canvas text.entry.width text.entry.height grid.new ≡ grid_picture r (body_picture r (thin_picture text.entry.width text.entry.height (picture_of text.entry)) (canvas text.entry.width text.entry.height bodies.old)) }
 {
-    thin_layer::make_thin(text, thins);
+    crate::thin_layer::make_thin(text, thins);
     let thin = Layer {
         codes: thins,
         width: text.width,
         height: text.height,
     };
-    body_layer::make_body(thin, bodies, grid, r);
+    crate::body_layer::make_body(thin, bodies, grid, r);
     let body = Layer {
         codes: bodies,
         width: text.width,
         height: text.height,
     };
-    grid_layer::make_grid(body, grid, r);
+    crate::grid_layer::make_grid(body, grid, r);
 }
 
 // A refusal of a text, which number 1 comes before.
@@ -76,15 +80,15 @@ pub fn draw_sheet(
 {
     let c = match scan::scan(s, 0, text, bodies) {
         Ok(c) => c,
-        Err(r) => return Err(behind_utf8(code_points::validate(s), r)),
+        Err(r) => return Err(behind_utf8(characters::code_points::validate(s), r)),
     };
-    line_checks::validate_lines(s, c.end.valid).map_err(Refusal::InvalidUtf8)?;
+    scan::line_checks::validate_lines(s, c.end.valid).map_err(Refusal::InvalidUtf8)?;
     let layer = Layer {
         codes: text,
         width: c.columns,
         height: c.rows,
     };
-    let outline = outline::recognize_outline(layer)?;
+    let outline = frames::outline::recognize_outline(layer)?;
     make_layers(layer, thins, bodies, grid, outline.body);
     Ok(Drawing {
         rows: c.rows,

@@ -4,3 +4,5 @@ pub mod Spans
 pub mod Held
 pub mod Slices
 pub mod Written
+pub mod rects
+pub mod turning

@@ -2,6 +2,9 @@
 // The slice of a plane is lent by the caller, in C too: its numbers and its size are fixed.
 #![tactic(auto)]
 
+pub mod rects;
+pub mod turning;
+
 ghost use Rattle.std.specs.Prelude.{◌≡◌, [], ◌∷◌, ◌++◌, ◌+◌, ◌*◌, ◌≤◌, ◌<◌, length};
 ghost use Rattle.model.specs.Cells.{Small};
 ghost use Rattle.model.specs.Limits.{plane_rows, plane_cells, plane_size};

@@ -17,17 +17,17 @@ use Rattle.model.specs.Refusals.{Reading}
 use Rattle.model.specs.declared.Refusal.TheVariants.{PlaneMalformed}
 use Rattle.cells.specs.Plane.{Plane}
 use Rattle.record.specs.Policy.{Text}
-use Rattle.cell_tests.specs.Readings.{refuse}
-use Rattle.cell_tests.specs.SheetCells.{width_of, region_at, column_is}
-use Rattle.allowed.specs.Allowed.{allowed_of}
+use Rattle.clauses.specs.cell_tests.Readings.{refuse}
+use Rattle.clauses.specs.cell_tests.SheetCells.{width_of, region_at, column_is}
+use Rattle.clauses.specs.allowed.Allowed.{allowed_of}
 use Rattle.clauses.specs.Readings.{along}
 use Rattle.cells.specs.declared.place.Place.{Place}
 use Rattle.clauses.specs.Clauses.{main_of, outputs_end, present, OutputTexts, NoteTexts, Found, text_at, optional_at, entries_of, one_output, many_outputs, outputs_of, notes_of, found_from}
-use Rattle.passes.specs.Passes.{fine, fine_row, fine_rows}
-use Rattle.layouts.specs.Layouts.{one_layout, named_layout, labelled_layout, many_layout, layout_of}
+use Rattle.clauses.specs.passes.Passes.{fine, fine_row, fine_rows}
+use Rattle.clauses.specs.layouts.Layouts.{one_layout, named_layout, labelled_layout, many_layout, layout_of}
 use Rattle.clauses.specs.Shape.{notes_at, inputs_fine, clauses_at, shape_of}
 use Rattle.clauses.specs.Spelled.{read_or, cell_text, optional}
-use Rattle.layouts.specs.declared.Layout.{Layout}
+use Rattle.clauses.specs.declared.layouts.Layout.{Layout}
 use Rattle.clauses.specs.declared.Notes.{Notes}
 use Rattle.clauses.specs.declared.Shape.{Shape}
 use Rattle.clauses.proofs.ReadingsApart.{Apart, after, same, way, joined, along_apart}

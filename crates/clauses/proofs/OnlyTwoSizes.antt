@@ -16,17 +16,17 @@ use Rattle.lists.proofs.RunLaws.{length_run}
 use Rattle.model.specs.Refusals.{Reading}
 use Rattle.model.specs.declared.Refusal.TheVariants.{PlaneMalformed, InvalidSize}
 use Rattle.cells.specs.Plane.{Plane}
-use Rattle.cell_tests.specs.Readings.{refuse}
-use Rattle.cell_tests.specs.SheetCells.{column_is}
-use Rattle.allowed.specs.Allowed.{allowed_of}
+use Rattle.clauses.specs.cell_tests.Readings.{refuse}
+use Rattle.clauses.specs.cell_tests.SheetCells.{column_is}
+use Rattle.clauses.specs.allowed.Allowed.{allowed_of}
 use Rattle.cells.specs.declared.place.Place.{Place}
 use Rattle.clauses.specs.Sizes.{differ, uneven, sized}
 use Rattle.clauses.specs.Clauses.{main_of, outputs_end}
-use Rattle.passes.specs.Passes.{fine, fine_row, fine_rows}
-use Rattle.layouts.specs.Layouts.{one_layout, named_layout, labelled_layout, many_layout, layout_of}
+use Rattle.clauses.specs.passes.Passes.{fine, fine_row, fine_rows}
+use Rattle.clauses.specs.layouts.Layouts.{one_layout, named_layout, labelled_layout, many_layout, layout_of}
 use Rattle.clauses.specs.Shape.{inputs_fine, notes_at, clauses_at, shape_of, sizes_of}
 use Rattle.clauses.specs.Spelled.{cell_text, optional, first_output, values_row, names_row}
-use Rattle.layouts.specs.declared.Layout.{Layout}
+use Rattle.clauses.specs.declared.layouts.Layout.{Layout}
 use Rattle.clauses.specs.declared.Shape.{Shape}
 use Rattle.clauses.proofs.Apart.{found_as}
 

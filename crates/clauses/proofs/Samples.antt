@@ -14,10 +14,10 @@ use Rattle.model.specs.declared.Refusal.TheVariants.{InvalidSize, TooManyOutputR
 use Rattle.cells.specs.Plane.{Plane}
 use Rattle.record.specs.Policy.{Text}
 use Rattle.record.specs.Record.{input_texts, output_texts, rule_texts}
-use Rattle.cell_tests.specs.Readings.{every}
-use Rattle.cell_tests.specs.SheetCells.{region_at, column_is}
-use Rattle.allowed.specs.Apart.{meet_row, apart_from}
-use Rattle.allowed.specs.Allowed.{allowed_two, allowed_three, allowed_of}
+use Rattle.clauses.specs.cell_tests.Readings.{every}
+use Rattle.clauses.specs.cell_tests.SheetCells.{region_at, column_is}
+use Rattle.clauses.specs.allowed.Apart.{meet_row, apart_from}
+use Rattle.clauses.specs.allowed.Allowed.{allowed_two, allowed_three, allowed_of}
 use Rattle.clauses.specs.Readings.{along}
 use Rattle.cells.specs.Places.{place_in_row, place_from}
 use Rattle.clauses.specs.Clauses.{text_at, optional_at, entries_of, one_output, many_outputs, outputs_of, notes_of, found_from}

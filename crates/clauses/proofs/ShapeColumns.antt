@@ -11,14 +11,14 @@ use Rattle.lists.proofs.AnswerLaws.{then_ok}
 use Rattle.model.specs.declared.Cell.TheVariants.{MainDoubleCrossing, HorizontalDoubleCrossing}
 use Rattle.model.specs.declared.Refusal.TheVariants.{PlaneMalformed}
 use Rattle.cells.specs.Plane.{Plane}
-use Rattle.cell_tests.specs.Readings.{refuse}
-use Rattle.cell_tests.specs.SheetCells.{width_of}
-use Rattle.allowed.specs.Allowed.{allowed_of}
+use Rattle.clauses.specs.cell_tests.Readings.{refuse}
+use Rattle.clauses.specs.cell_tests.SheetCells.{width_of}
+use Rattle.clauses.specs.allowed.Allowed.{allowed_of}
 use Rattle.clauses.specs.Clauses.{main_of, outputs_end}
 use Rattle.cells.specs.declared.place.Place.{Place}
 use Rattle.cells.specs.Places.{place_of}
-use Rattle.passes.specs.Passes.{fine_row, fine_rows}
-use Rattle.layouts.specs.Layouts.{layout_of}
+use Rattle.clauses.specs.passes.Passes.{fine_row, fine_rows}
+use Rattle.clauses.specs.layouts.Layouts.{layout_of}
 use Rattle.clauses.specs.Shape.{notes_at, inputs_fine, clauses_at, shape_of, sizes_of, checked_shape}
 use Rattle.clauses.specs.declared.Notes.{Notes}
 use Rattle.clauses.specs.declared.Shape.{Shape}

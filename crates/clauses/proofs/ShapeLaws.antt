@@ -13,11 +13,11 @@ use Rattle.model.specs.declared.Refusal.{Refusal}
 use Rattle.model.specs.declared.Refusal.TheVariants.{NoMainCrossing, PlaneMalformed, InvalidSize}
 use Rattle.cells.specs.Plane.{Plane, plane_in}
 use Rattle.cells.proofs.PlaneLaws.{length-plane}
-use Rattle.cell_tests.specs.SheetCells.{width_of}
-use Rattle.allowed.specs.Allowed.{allowed_of}
-use Rattle.passes.specs.Passes.{fine_row, fine_rows}
-use Rattle.layouts.specs.Layouts.{layout_of}
-use Rattle.layouts.specs.declared.Layout.{Layout}
+use Rattle.clauses.specs.cell_tests.SheetCells.{width_of}
+use Rattle.clauses.specs.allowed.Allowed.{allowed_of}
+use Rattle.clauses.specs.passes.Passes.{fine_row, fine_rows}
+use Rattle.clauses.specs.layouts.Layouts.{layout_of}
+use Rattle.clauses.specs.declared.layouts.Layout.{Layout}
 use Rattle.clauses.specs.Clauses.{outputs_end}
 use Rattle.cells.specs.declared.place.Place.{Place}
 use Rattle.cells.specs.Places.{place_of}

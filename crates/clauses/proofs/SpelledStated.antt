@@ -21,7 +21,7 @@ use Rattle.model.specs.declared.Refusal.TheVariants.{InvalidSize}
 use Rattle.cells.specs.Plane.{Plane}
 use Rattle.record.specs.Policy.{Text, input, output, rule, Entries}
 use Rattle.record.specs.Record.{input_texts, output_texts, rule_texts}
-use Rattle.cell_tests.specs.Readings.{refuse}
+use Rattle.clauses.specs.cell_tests.Readings.{refuse}
 use Rattle.cells.specs.Places.{place_of}
 use Rattle.clauses.specs.Sizes.{differ}
 use Rattle.clauses.specs.Stated.{allowed_text, default_text, input_of, output_of, rule_of, stated_by, clauses_of, clause_texts}

@@ -8,9 +8,9 @@ use Rattle.model.specs.declared.Cell.TheVariants.{MainDoubleCrossing, Horizontal
 use Rattle.model.specs.declared.Refusal.TheVariants.{NoMainCrossing, PlaneMalformed, NoOutputClause, TooManyOutputRows}
 use Rattle.cells.specs.Plane.{Plane}
 use Rattle.record.specs.Policy.{Text}
-use Rattle.cell_tests.specs.Readings.{refuse}
-use Rattle.cell_tests.specs.SheetCells.{width_of, region_at}
-use Rattle.allowed.specs.Allowed.{allowed_of}
+use Rattle.clauses.specs.cell_tests.Readings.{refuse}
+use Rattle.clauses.specs.cell_tests.SheetCells.{width_of, region_at}
+use Rattle.clauses.specs.allowed.Allowed.{allowed_of}
 use Rattle.clauses.specs.Readings.{along}
 use Rattle.cells.specs.declared.place.Place.{Place}
 use Rattle.cells.specs.Places.{place_of}

@@ -5,3 +5,7 @@ pub mod Stated
 pub mod Shape
 pub mod Spelled
 pub mod Told
+pub mod cell_tests
+pub mod passes
+pub mod allowed
+pub mod layouts

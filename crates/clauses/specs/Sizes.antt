@@ -4,7 +4,7 @@ use Rattle.lists.specs.Answer.{◌>>◌}
 use Rattle.lists.specs.Choose.{choose}
 use Rattle.model.specs.Refusals.{Reading}
 use Rattle.model.specs.declared.Refusal.TheVariants.{InvalidSize}
-use Rattle.cell_tests.specs.Readings.{refuse}
+use Rattle.clauses.specs.cell_tests.Readings.{refuse}
 use Rattle.clauses.specs.Clauses.{Found}
 
 abbrev pub differ : ℕ → ℕ → Bool

@@ -5,7 +5,7 @@ use Rattle.lists.specs.Run.{run}
 use Rattle.model.specs.Refusals.{Reading}
 use Rattle.cells.specs.Plane.{Plane}
 use Rattle.record.specs.Policy.{Text}
-use Rattle.cell_tests.specs.SheetCells.{region_at}
+use Rattle.clauses.specs.cell_tests.SheetCells.{region_at}
 use Rattle.clauses.specs.Clauses.{present}
 use Rattle.clauses.specs.Stated.{allowed_text, default_text}
 use Rattle.clauses.specs.declared.Shape.{Shape}

@@ -1,18 +1,23 @@
 // The clause rules on an upright sheet: every refusal in its order, and where everything stands.
 #![tactic(auto)]
 
+pub mod allowed;
+pub mod cell_tests;
+pub mod layouts;
+pub mod passes;
+
 ghost use Rattle.std.specs.Prelude.{◌≡◌, ◌+◌, ◌≤◌, ◌<◌};
 ghost use Rattle.model.specs.Limits.{plane_rows, plane_cells};
 ghost use Rattle.cells.specs.Places.{SpotWithin};
 ghost use Rattle.cells.specs.Slices.{plane_of};
-ghost use Rattle.cell_tests.specs.SheetCells.{width_of};
+ghost use Rattle.clauses.specs.cell_tests.SheetCells.{width_of};
 ghost use Rattle.clauses.specs.Clauses.{outputs_end};
 ghost use Rattle.clauses.specs.Shape.{notes_at, inputs_fine, clauses_at, shape_of, sizes_of, checked_shape};
 ghost use Rattle.clauses.specs.Told.{SpotInColumn, NotesFit, ShapeFits, ShapedFits};
 
+use crate::layouts::Layout;
 use cells::place::Place;
 use cells::plane::Plane;
-use layouts::Layout;
 use model::{Cell, Refusal};
 
 // How many annotations there are, and the column and the row where their entries start.
@@ -46,8 +51,8 @@ fn notes_behind(plane: Plane, spot: Place) -> Result<Notes, Refusal>
     let col = spot.col + 1;
     let row = spot.row + 1;
     let count = w - col;
-    passes::pass_row(plane, 0, col, count)?;
-    passes::pass_rows(plane, row, col, count)?;
+    crate::passes::pass_row(plane, 0, col, count)?;
+    crate::passes::pass_rows(plane, row, col, count)?;
     Ok(Notes { count, col, row })
 }
 
@@ -85,11 +90,11 @@ fn pass_inputs(plane: Plane, n: usize, h: usize, values: bool) -> Result<(), Ref
     requires { (n ≤ plane_cells) × (1 ≤ h) × (h < plane.rows) }
     ensures { result ≡ inputs_fine (plane_of plane.entry) n h values }
 {
-    passes::pass_row(plane, 0, 0, n)?;
+    crate::passes::pass_row(plane, 0, 0, n)?;
     if values {
-        passes::pass_row(plane, h - 1, 0, n)?;
+        crate::passes::pass_row(plane, h - 1, 0, n)?;
     }
-    passes::pass_rows(plane, h + 1, 0, n)
+    crate::passes::pass_rows(plane, h + 1, 0, n)
 }
 
 // The shape of n inputs and m outputs under h clause rows.
@@ -104,10 +109,10 @@ fn clauses_at(
     ensures shape { result ≡ clauses_at (plane_of plane.entry) n m h notes }
     ensures fits { ShapedFits result plane.entry.rows 0 }
 {
-    let values = allowed::allowed(plane, n, m, h)?;
+    let values = crate::allowed::allowed(plane, n, m, h)?;
     pass_inputs(plane, n, h, values)?;
-    let layout = layouts::lay_out(plane, n + 1, m, h, values)?;
-    passes::pass_rows(plane, h + 1, n + 1, m)?;
+    let layout = crate::layouts::lay_out(plane, n + 1, m, h, values)?;
+    crate::passes::pass_rows(plane, h + 1, n + 1, m)?;
     let a = notes_at(plane, notes, n + 1 + m)?;
     Ok(Shape {
         inputs: n,

@@ -6,8 +6,8 @@ use lib.ListN.{replicate}
 use Rattle.lists.specs.Picture.{within}
 use Rattle.model.specs.Box.{┌}
 use Rattle.model.specs.declared.Refusal.TheVariants.{CanvasTooLarge, CharactersNotFound}
-use Rattle.outline.specs.Outline.{search_from, outline_by}
-use Rattle.sheet_rows.specs.Rows.{rows, widest}
+use Rattle.frames.specs.outline.Outline.{search_from, outline_by}
+use Rattle.scan.specs.sheet_rows.Rows.{rows, widest}
 use Rattle.scan.specs.Canvas.{size_of}
 use Rattle.scan.specs.Rows.{flat}
 use Rattle.canvas.specs.Layers.{drawing_by, drawing_of}

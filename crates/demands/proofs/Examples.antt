@@ -2,19 +2,19 @@
 use mathlib.Core.Path.{refl}
 use Rattle.lists.specs.Picture.{within}
 use Rattle.lists.specs.Run.{run}
-use Rattle.hit_policies.specs.Letters.{same_text, by_letters}
-use Rattle.numerals.specs.RuleNumbers.{digits, number_of}
-use Rattle.white_space.specs.Lines.{lines, texts, last_of}
-use Rattle.white_space.specs.Trim.{trim_start, trim_end, trim, trim_start_utf8, trim_utf8}
-use Rattle.utf8.specs.Utf8.{more, by, decode, check, read, encode, encodes}
-use Rattle.white_space.specs.White.{among}
-use Rattle.emphasis.specs.Commas.{parts}
-use Rattle.emphasis.specs.Emphasis.{starts_with, ends_with, strip_start, strip_end, strip, emphasised, first_marked}
-use Rattle.rewriting.specs.Replaced.{replace_all}
+use Rattle.plane.specs.hit_policies.Letters.{same_text, by_letters}
+use Rattle.plane.specs.numerals.RuleNumbers.{digits, number_of}
+use Rattle.characters.specs.white_space.Lines.{lines, texts, last_of}
+use Rattle.characters.specs.white_space.Trim.{trim_start, trim_end, trim, trim_start_utf8, trim_utf8}
+use Rattle.characters.specs.utf8.Utf8.{more, by, decode, check, read, encode, encodes}
+use Rattle.characters.specs.white_space.White.{among}
+use Rattle.values.specs.emphasis.Commas.{parts}
+use Rattle.values.specs.emphasis.Emphasis.{starts_with, ends_with, strip_start, strip_end, strip, emphasised, first_marked}
+use Rattle.values.specs.rewriting.Replaced.{replace_all}
 use Rattle.values.specs.Values.{values_of}
-use Rattle.outline.specs.Outline.{search_from, named_by, outline_by}
-use Rattle.rule_numbers.specs.Numbering.{counted}
-use Rattle.sheet_rows.specs.Rows.{up_to, collect, widest}
+use Rattle.frames.specs.outline.Outline.{search_from, named_by, outline_by}
+use Rattle.plane.specs.rule_numbers.Numbering.{counted}
+use Rattle.scan.specs.sheet_rows.Rows.{up_to, collect, widest}
 use Rattle.scan.specs.Canvas.{size_of}
 use Rattle.scan.specs.Rows.{flat}
 use Rattle.canvas.specs.Layers.{drawing_by, sheet_by}

@@ -15,9 +15,9 @@ use Rattle.model.specs.declared.Refusal.TheVariants.{OutputSliceShort}
 use Rattle.record.specs.Policy.{Policy}
 use Rattle.record.specs.Record.{total, encode, table_of}
 use Rattle.recognizer.specs.Told.{table_read}
-use Rattle.room.specs.Room.{room_from}
-use Rattle.ends.specs.Ends.{End, end_by, end_of}
-use Rattle.records.specs.Outcomes.{outcome_of}
+use Rattle.builder.specs.room.Room.{room_from}
+use Rattle.builder.specs.ends.Ends.{End, end_by, end_of}
+use Rattle.recognizer.specs.records.Outcomes.{outcome_of}
 use Rattle.policies.specs.DrawnPolicy.{walked_policy}
 use Rattle.policies.specs.LentPolicy.{lent_policy}
 use Rattle.policies.specs.Source.{Source, drawing, plane, stated_by}

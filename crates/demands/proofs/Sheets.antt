@@ -9,41 +9,41 @@ use Rattle.lists.specs.Answer.{each, those}
 use Rattle.lists.specs.OneOf.{one_of, any_at}
 use Rattle.lists.specs.Picture.{within, in_rect}
 use Rattle.lists.specs.Run.{run}
-use Rattle.white_space.specs.Lines.{lines, texts, last_of}
-use Rattle.white_space.specs.Trim.{trim_start, trim_end, trim}
-use Rattle.utf8.specs.Utf8.{more, by, decode, check, read, encode, encodes}
-use Rattle.white_space.specs.White.{among}
-use Rattle.hit_policies.specs.Letters.{same_text, by_letters}
-use Rattle.numerals.specs.RuleNumbers.{digits, number_of}
-use Rattle.placement.specs.Orientation.{holds_in, holds, oriented_of}
-use Rattle.rule_numbers.specs.Numbering.{last, place_behind, counted, rule_numbers_of}
-use Rattle.placement.specs.Placement.{placement_of}
-use Rattle.turning.specs.Upright.{upright_of}
+use Rattle.characters.specs.white_space.Lines.{lines, texts, last_of}
+use Rattle.characters.specs.white_space.Trim.{trim_start, trim_end, trim}
+use Rattle.characters.specs.utf8.Utf8.{more, by, decode, check, read, encode, encodes}
+use Rattle.characters.specs.white_space.White.{among}
+use Rattle.plane.specs.hit_policies.Letters.{same_text, by_letters}
+use Rattle.plane.specs.numerals.RuleNumbers.{digits, number_of}
+use Rattle.plane.specs.placement.Orientation.{holds_in, holds, oriented_of}
+use Rattle.plane.specs.rule_numbers.Numbering.{last, place_behind, counted, rule_numbers_of}
+use Rattle.plane.specs.placement.Placement.{placement_of}
+use Rattle.cells.specs.turning.Upright.{upright_of}
 use Rattle.plane.specs.Sheet.{stated_sheet}
-use Rattle.cell_tests.specs.Readings.{every}
-use Rattle.cell_tests.specs.SheetCells.{region_at}
-use Rattle.allowed.specs.Allowed.{allowed_of}
+use Rattle.clauses.specs.cell_tests.Readings.{every}
+use Rattle.clauses.specs.cell_tests.SheetCells.{region_at}
+use Rattle.clauses.specs.allowed.Allowed.{allowed_of}
 use Rattle.clauses.specs.Clauses.{text_at, optional_at, entries_of, one_output, outputs_of, notes_of, found_from}
 use Rattle.clauses.specs.Readings.{along}
 use Rattle.cells.specs.Places.{place_in_row, place_from}
 use Rattle.clauses.specs.Sizes.{uneven, sized}
 use Rattle.clauses.specs.Stated.{stated_by, clauses_of}
 use Rattle.recognizer.specs.StatedPolicy.{sheet_policy, stated_policy}
-use Rattle.sheet_rows.specs.Rows.{up_to, collect, widest}
+use Rattle.scan.specs.sheet_rows.Rows.{up_to, collect, widest}
 use Rattle.scan.specs.Canvas.{size_of}
 use Rattle.scan.specs.Rows.{flat}
 use Rattle.walks.specs.Frame.{frame_of}
 use Rattle.walks.specs.Walk.{walk_from}
 use Rattle.frames.specs.Body.{body_of}
-use Rattle.outline.specs.Outline.{search_from, named_by, table_of, outline_by}
-use Rattle.body_layer.specs.Body.{top_of, body_code, shaded_code}
-use Rattle.grid_layer.specs.Grid.{carried_code}
-use Rattle.grid_layer.specs.Passes.{line_carried}
-use Rattle.thin_layer.specs.Thin.{thin_of}
-use Rattle.regions.specs.Regions.{regions_by}
-use Rattle.lookup.specs.Lookup.{region_from}
-use Rattle.step.specs.PlaneStep.{plane_by}
-use Rattle.texts.specs.RegionText.{behind, text_of, packed, texts_of}
+use Rattle.frames.specs.outline.Outline.{search_from, named_by, table_of, outline_by}
+use Rattle.canvas.specs.body_layer.Body.{top_of, body_code, shaded_code}
+use Rattle.canvas.specs.grid_layer.Grid.{carried_code}
+use Rattle.canvas.specs.grid_layer.Passes.{line_carried}
+use Rattle.canvas.specs.thin_layer.Thin.{thin_of}
+use Rattle.frames.specs.regions.Regions.{regions_by}
+use Rattle.frames.specs.lookup.Lookup.{region_from}
+use Rattle.text_planes.specs.step.PlaneStep.{plane_by}
+use Rattle.text_planes.specs.texts.RegionText.{behind, text_of, packed, texts_of}
 use Rattle.text_planes.specs.DrawnPlane.{text_plane_by}
 use Rattle.canvas.specs.Layers.{drawing_by, sheet_by}
 use Rattle.text_planes.specs.RegionTexts.{region_texts_by}

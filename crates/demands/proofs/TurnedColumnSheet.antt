@@ -19,15 +19,15 @@ use Rattle.cells.specs.Plane.{TextPlane}
 use Rattle.record.specs.Compared.{compared}
 use Rattle.record.specs.Policy.{Policy, Same}
 use Rattle.record.specs.Record.{total, encode, table_of}
-use Rattle.lent.specs.LentPlane.{LentPlane, lent_of}
+use Rattle.plane.specs.lent.LentPlane.{LentPlane, lent_of}
 use Rattle.policies.specs.LentPolicy.{lent_policy}
 use Rattle.policies.specs.Source.{plane}
 use Rattle.policies.specs.TurnedPlane.{turned_plane}
 use Rattle.policies.proofs.TurnedPolicy.{policy_in_rows, turned-policy}
 use Rattle.recognizer.specs.Told.{table_read}
-use Rattle.room.specs.Room.{room_from}
-use Rattle.ends.specs.Ends.{End, end_by, end_of}
-use Rattle.lent_builder.specs.LentEnd.{lent_sizes, lent_end}
+use Rattle.builder.specs.room.Room.{room_from}
+use Rattle.builder.specs.ends.Ends.{End, end_by, end_of}
+use Rattle.builder.specs.lent_builder.LentEnd.{lent_sizes, lent_end}
 use Rattle.demands.proofs.Recorded.{recorded}
 use Rattle.demands.proofs.SamePolicySameRecord.{told_apart}
 

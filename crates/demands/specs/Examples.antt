@@ -9,11 +9,11 @@ use Rattle.model.specs.declared.BuiltinAggregator.TheVariants.{Min}
 use Rattle.model.specs.declared.Cell.TheVariants.{Region}
 use Rattle.model.specs.declared.HitPolicy.TheVariants.{Collect}
 use Rattle.model.specs.declared.Refusal.TheVariants.{CharactersNotFound, InvalidRuleNumber}
-use Rattle.hit_policies.specs.Letters.{policy_of}
-use Rattle.numerals.specs.RuleNumbers.{number_of}
-use Rattle.allowed.specs.Allowed.{allowed_by}
-use Rattle.rule_numbers.specs.Numbering.{counted}
-use Rattle.utf8.specs.Utf8.{encodes}
+use Rattle.plane.specs.hit_policies.Letters.{policy_of}
+use Rattle.plane.specs.numerals.RuleNumbers.{number_of}
+use Rattle.clauses.specs.allowed.Allowed.{allowed_by}
+use Rattle.plane.specs.rule_numbers.Numbering.{counted}
+use Rattle.characters.specs.utf8.Utf8.{encodes}
 use Rattle.values.specs.Values.{values_of}
 use Rattle.policies.specs.DrawnPolicy.{walked_policy}
 

@@ -1,12 +1,13 @@
-// The three entries as a static library, under the names of the header: each is the function of `exports` of its name.
+// The three entries as a static library for programs in C or Rust, under the names of the header: a slice is a pointer and a count, an outcome is numbers.
 #![tactic(auto)]
 
 ghost use Rattle.std.specs.Prelude.{[], ◌∷◌, ◌≡◌};
 ghost use Rattle.builder.specs.SheetEnd.{sheet_end};
-ghost use Rattle.lent_builder.specs.LentEnd.{lent_end};
-ghost use Rattle.numbers.specs.Answers.{answer_of, SplitTold};
+ghost use Rattle.builder.specs.lent_builder.LentEnd.{lent_end};
+ghost use Rattle.builder.specs.numbers.Answers.{answer_of, SplitTold};
 
-use numbers::{Answer, SplitAnswer};
+use builder::numbers::{Answer, SplitAnswer};
+use plane::lent::Lent;
 
 // The whole reader.
 #[unsafe(no_mangle)]
@@ -24,7 +25,8 @@ pub extern "C" fn fezandimo_read_sheet(
     ensures works { (text.new ∷ thins.new ∷ bodies.new ∷ grid.new ∷ spans.new ∷ bytes.new ∷ []) ≡ (sheet_end s.now (text.old ∷ thins.old ∷ bodies.old ∷ grid.old ∷ spans.old ∷ bytes.old ∷ []) out.old).works }
     ensures out { out.new ≡ (sheet_end s.now (text.old ∷ thins.old ∷ bodies.old ∷ grid.old ∷ spans.old ∷ bytes.old ∷ []) out.old).out }
 {
-    exports::fezandimo_read_sheet(s, text, thins, bodies, grid, spans, bytes, out)
+    let o = builder::read_sheet(s, text, thins, bodies, grid, spans, bytes, out);
+    Answer::from(o)
 }
 
 // The table from a lent plane.
@@ -46,9 +48,16 @@ pub extern "C" fn fezandimo_read_lent_plane(
     ensures works { (plane.new ∷ spans.new ∷ upright.new ∷ slots.new ∷ []) ≡ (lent_end (record { rows = rows.now; kinds = kinds.now; regions = regions.now; offsets = offsets.now; sizes = sizes.now; bytes = bytes.now }) (plane.old ∷ spans.old ∷ upright.old ∷ slots.old ∷ []) out.old).works }
     ensures out { out.new ≡ (lent_end (record { rows = rows.now; kinds = kinds.now; regions = regions.now; offsets = offsets.now; sizes = sizes.now; bytes = bytes.now }) (plane.old ∷ spans.old ∷ upright.old ∷ slots.old ∷ []) out.old).out }
 {
-    exports::fezandimo_read_lent_plane(
-        rows, kinds, regions, offsets, sizes, bytes, plane, spans, upright, slots, out,
-    )
+    let l = Lent {
+        rows,
+        kinds,
+        regions,
+        offsets,
+        sizes,
+        bytes,
+    };
+    let o = builder::lent_builder::read_lent_plane(l, plane, spans, upright, slots, out);
+    Answer::from(o)
 }
 
 // The value split.
@@ -56,5 +65,6 @@ pub extern "C" fn fezandimo_read_lent_plane(
 pub extern "C" fn fezandimo_split_values(text: &[u8], scratch: &mut [u8]) -> SplitAnswer
     ensures { SplitTold result text.now scratch.old scratch.new }
 {
-    exports::fezandimo_split_values(text, scratch)
+    let s = values::utils::split_values(text, scratch);
+    SplitAnswer::from(s)
 }

@@ -11,11 +11,11 @@ use Rattle.walks.specs.Frame.{Place, rect_of, close_of, frame_of}
 use Rattle.walks.specs.Kinds.{thin, grid, name}
 use Rattle.walks.specs.declared.Direction.TheVariants.{Right, Down, Left, Up}
 use Rattle.walks.proofs.FrameLaws.{closed, stops_right, stops_down, stops_left, stops_up, walked}
-use Rattle.along.specs.Characters.{kind_of, along_of}
-use Rattle.along.specs.declared.Lines.{Lines}
-use Rattle.along.specs.declared.Lines.TheVariants.{Region, Rectangle, Name, Body}
-use Rattle.cursors.specs.Cursor.{point, place_after}
-use Rattle.cursors.proofs.CursorLaws.{Moves, came, stays}
+use Rattle.walks.specs.along.Characters.{kind_of, along_of}
+use Rattle.walks.specs.declared.along.Lines.{Lines}
+use Rattle.walks.specs.declared.along.Lines.TheVariants.{Region, Rectangle, Name, Body}
+use Rattle.walks.specs.cursors.Cursor.{point, place_after}
+use Rattle.walks.proofs.cursors.CursorLaws.{Moves, came, stays}
 use Rattle.frames.specs.Body.{body_of}
 
 -- the last of four walks, or the first refusal

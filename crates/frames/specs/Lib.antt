@@ -1,1 +1,4 @@
 pub mod Body
+pub mod regions
+pub mod outline
+pub mod lookup

@@ -1,20 +1,24 @@
 // The frames that the walks of a cursor find.
 #![tactic(auto)]
 
+pub mod lookup;
+pub mod outline;
+pub mod regions;
+
 ghost use Rattle.std.specs.Prelude.{◌≡◌, ◌+◌, ◌<◌, ◌^◌};
 ghost use Rattle.model.specs.Layers.{picture_of};
 ghost use Rattle.walks.specs.Frame.{Place, close_of, frame_of};
 ghost use Rattle.walks.specs.Spots.{from_spot};
 ghost use Rattle.walks.specs.Kinds.{thin, grid, name};
 ghost use Rattle.walks.specs.declared.Direction.TheVariants.{Right, Down};
-ghost use Rattle.along.specs.Characters.{kind_of, along_of};
-ghost use Rattle.along.specs.declared.Lines.TheVariants.{Crossing};
+ghost use Rattle.walks.specs.along.Characters.{kind_of, along_of};
+ghost use Rattle.walks.specs.declared.along.Lines.TheVariants.{Crossing};
 ghost use Rattle.frames.specs.Body.{body_of};
 
-use along::Lines;
 use model::layer::Layer;
 use model::{Point, Rect, Refusal};
 use walks::Direction;
+use walks::along::Lines;
 use walks::spot::Spot;
 
 // The four walks of a frame ended at a place; its bottom right corner is another.
@@ -40,11 +44,11 @@ fn frame(spot: Spot, lines: Lines) -> Result<Rect, Refusal>
     ensures { result ≡ from_spot (frame_of (kind_of lines)) spot.entry }
 {
     let mut cursor = spot.at;
-    cursors::search(Direction::Right, spot.layer, &mut cursor, lines)?;
-    cursors::search(Direction::Down, spot.layer, &mut cursor, lines)?;
+    walks::cursors::search(Direction::Right, spot.layer, &mut cursor, lines)?;
+    walks::cursors::search(Direction::Down, spot.layer, &mut cursor, lines)?;
     let corner = cursor;
-    cursors::search(Direction::Left, spot.layer, &mut cursor, lines)?;
-    cursors::search(Direction::Up, spot.layer, &mut cursor, lines)?;
+    walks::cursors::search(Direction::Left, spot.layer, &mut cursor, lines)?;
+    walks::cursors::search(Direction::Up, spot.layer, &mut cursor, lines)?;
     close(spot.at, corner, cursor)
 }
 
@@ -80,7 +84,7 @@ fn walk_from(d: Direction, spot: Spot, lines: Lines) -> Result<usize, Refusal>
     ensures { result ≡ from_spot (along_of lines d) spot.entry }
 {
     let mut cursor = spot.at;
-    cursors::search(d, spot.layer, &mut cursor, lines)
+    walks::cursors::search(d, spot.layer, &mut cursor, lines)
 }
 
 // The body of the table whose main crossing stands at a place: its sides are as far off as four walks come.

@@ -6,7 +6,7 @@ use lib.ListN.{get_or}
 use Rattle.model.specs.Refusals.{Reading}
 use Rattle.model.specs.declared.Refusal.{Refusal}
 use Rattle.cells.specs.Plane.{TextPlane}
-use Rattle.lent.specs.LentPlane.{LentPlane, lent_of}
+use Rattle.plane.specs.lent.LentPlane.{LentPlane, lent_of}
 use Rattle.plane.specs.LentSheet.{lent_sheet}
 use Rattle.plane.specs.Sheet.{Sheet, stated_sheet}
 

@@ -15,7 +15,7 @@ use Rattle.model.specs.Cells.{turned_cell}
 use Rattle.model.specs.declared.Cell.{Cell}
 use Rattle.model.specs.declared.Cell.TheVariants.{Region, VerticalOutputDoubleLine, VerticalAnnotationDoubleLine, HorizontalOutputDoubleLine, HorizontalAnnotationsDoubleLine, MainDoubleCrossing, HorizontalDoubleCrossing, VerticalDoubleCrossing}
 use Rattle.cells.specs.Plane.{Plane, cell_at, cells_in, row_in, plane_in}
-use Rattle.turning.specs.Upright.{but_last, turned}
+use Rattle.cells.specs.turning.Upright.{but_last, turned}
 
 -- the cell in a row and a column; a crossing where there is none
 abbrev pub cell_on : Plane → ℕ → ℕ → Cell

@@ -17,11 +17,11 @@ use Rattle.model.specs.declared.Orientation.TheVariants.{RulesAsRows, RulesAsCol
 use Rattle.model.specs.declared.RuleNumbersPlacement.{RuleNumbersPlacement}
 use Rattle.model.specs.declared.RuleNumbersPlacement.TheVariants as numbers
 use Rattle.cells.specs.Plane.{Plane}
-use Rattle.placement.specs.Orientation.{as_rows, as_columns, as_cross_tab, oriented_by, oriented_of, holds}
-use Rattle.rule_numbers.specs.Numbering.{numbers_left, numbers_right, right_of, rule_numbers_of}
-use Rattle.placement.specs.Placement.{placement_of}
-use Rattle.placement.specs.declared.Oriented.{Oriented}
-use Rattle.turning.specs.Upright.{upright_of}
+use Rattle.plane.specs.placement.Orientation.{as_rows, as_columns, as_cross_tab, oriented_by, oriented_of, holds}
+use Rattle.plane.specs.rule_numbers.Numbering.{numbers_left, numbers_right, right_of, rule_numbers_of}
+use Rattle.plane.specs.placement.Placement.{placement_of}
+use Rattle.plane.specs.declared.placement.Oriented.{Oriented}
+use Rattle.cells.specs.turning.Upright.{upright_of}
 use Rattle.plane.specs.Sheet.{Sheet, stated_sheet}
 
 -- there are numbers, where they are placed

@@ -11,13 +11,13 @@ use Rattle.model.specs.declared.Orientation.TheVariants.{RulesAsRows, RulesAsCol
 use Rattle.model.specs.declared.Refusal.{Refusal}
 use Rattle.cells.specs.Held.{Held}
 use Rattle.cells.specs.Plane.{Plane, plane_in, PlaneFits}
-use Rattle.placement.specs.Orientation.{holds, oriented_by, oriented_of}
-use Rattle.rule_numbers.specs.Numbering.{rule_numbers_of}
-use Rattle.placement.specs.Placement.{placement_of}
-use Rattle.placement.specs.declared.Oriented.{Oriented}
-use Rattle.placement.proofs.CornerLaws.{placed-rows}
+use Rattle.plane.specs.placement.Orientation.{holds, oriented_by, oriented_of}
+use Rattle.plane.specs.rule_numbers.Numbering.{rule_numbers_of}
+use Rattle.plane.specs.placement.Placement.{placement_of}
+use Rattle.plane.specs.declared.placement.Oriented.{Oriented}
+use Rattle.plane.proofs.placement.CornerLaws.{placed-rows}
 use Rattle.model.specs.declared.Cell.TheVariants.{HorizontalDoubleCrossing, VerticalDoubleCrossing}
-use Rattle.turning.specs.Upright.{but_last, upright_of}
+use Rattle.cells.specs.turning.Upright.{but_last, upright_of}
 use Rattle.plane.specs.Sheet.{stated_sheet}
 use Rattle.plane.proofs.RegionsKept.{RegionsBelow, slice_below, below_slice, rest_below, turned_below, but_below}
 use Rattle.plane.proofs.TurnedColumnSheet.{pivot_ok}

@@ -29,11 +29,11 @@ use Rattle.model.specs.declared.Refusal.TheVariants.{PlaneMalformed}
 use Rattle.model.specs.declared.RuleNumbersPlacement.{RuleNumbersPlacement}
 use Rattle.model.specs.declared.RuleNumbersPlacement.TheVariants as numbers
 use Rattle.cells.specs.Plane.{Plane}
-use Rattle.placement.specs.Orientation.{holds_in, holds, as_rows, as_columns, as_cross_tab, oriented_by, oriented_of}
-use Rattle.rule_numbers.specs.Numbering.{first, last, place_behind, counted, counted_behind, numbers_left, numbers_right, right_of, rule_numbers_of}
-use Rattle.placement.specs.Placement.{policy_in, corner_policy, bottom_left, placement_of}
-use Rattle.placement.specs.declared.Oriented.{Oriented}
-use Rattle.turning.specs.Upright.{but_last, wide, turned, pivot_of, upright_of}
+use Rattle.plane.specs.placement.Orientation.{holds_in, holds, as_rows, as_columns, as_cross_tab, oriented_by, oriented_of}
+use Rattle.plane.specs.rule_numbers.Numbering.{first, last, place_behind, counted, counted_behind, numbers_left, numbers_right, right_of, rule_numbers_of}
+use Rattle.plane.specs.placement.Placement.{policy_in, corner_policy, bottom_left, placement_of}
+use Rattle.plane.specs.declared.placement.Oriented.{Oriented}
+use Rattle.cells.specs.turning.Upright.{but_last, wide, turned, pivot_of, upright_of}
 use Rattle.plane.specs.Sheet.{Sheet, stated_sheet, last_first}
 
 -- two answers that differ

@@ -7,7 +7,7 @@ use Rattle.model.specs.Cells.{turned_cell}
 use Rattle.model.specs.declared.Cell.TheVariants.{MainDoubleCrossing}
 use Rattle.model.proofs.CellLaws as cell
 use Rattle.cells.specs.Plane.{Plane}
-use Rattle.turning.specs.Upright.{turned}
+use Rattle.cells.specs.turning.Upright.{turned}
 
 pub turned-twice : (P : Plane) → Even P → 0 < width P → turned (turned P) ≡ P
 turned-twice P even h = transpose-twice turned_cell turned_cell MainDoubleCrossing MainDoubleCrossing P cell.turned-twice even h

@@ -3,8 +3,8 @@ use Rattle.std.specs.Prelude.{List, [], ℕ, ◌≤◌, length, get_or}
 use Rattle.lists.specs.Answer.{◌>>=◌}
 use Rattle.model.specs.Limits.{plane_size}
 use Rattle.model.specs.Refusals.{Reading}
-use Rattle.lent.specs.Held.{Room}
-use Rattle.lent.specs.LentPlane.{LentPlane, lent_of}
+use Rattle.plane.specs.lent.Held.{Room}
+use Rattle.plane.specs.lent.LentPlane.{LentPlane, lent_of}
 use Rattle.plane.specs.Sheet.{Sheet, stated_sheet}
 
 -- its plane and texts, then its upright sheet

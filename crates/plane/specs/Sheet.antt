@@ -6,9 +6,9 @@ use Rattle.model.specs.Refusals.{Reading}
 use Rattle.model.specs.declared.HitPolicy.{HitPolicy}
 use Rattle.model.specs.declared.Orientation.{Orientation}
 use Rattle.cells.specs.Plane.{Plane}
-use Rattle.placement.specs.Orientation.{oriented_of}
-use Rattle.rule_numbers.specs.Numbering.{last}
-use Rattle.turning.specs.Upright.{but_last, upright_of}
+use Rattle.plane.specs.placement.Orientation.{oriented_of}
+use Rattle.plane.specs.rule_numbers.Numbering.{last}
+use Rattle.cells.specs.turning.Upright.{but_last, upright_of}
 
 pub record Sheet : Type 0 where
   pub orientation : Orientation

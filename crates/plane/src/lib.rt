@@ -1,18 +1,24 @@
 // The upright sheet of a plane, or of a lent one, with its hit policy and its rule count.
 #![tactic(auto)]
 
+pub mod hit_policies;
+pub mod lent;
+pub mod numerals;
+pub mod placement;
+pub mod rule_numbers;
+
 ghost use Rattle.std.specs.Prelude.{◌≡◌, ◌≤◌, length};
 ghost use Rattle.model.specs.Limits.{plane_size};
 ghost use Rattle.cells.specs.Slices.{plane_of, text_of};
-ghost use Rattle.lent.specs.Lent.{lists_of};
+ghost use Rattle.plane.specs.lent.Lent.{lists_of};
 ghost use Rattle.plane.specs.LentSheet.{lent_sheet, WorkRoom};
 ghost use Rattle.plane.specs.Sheet.{stated_sheet};
 ghost use Rattle.plane.specs.Stated.{stated_in, StatedHeld};
 
+use crate::lent::Lent;
 use cells::plane::Plane;
 use cells::text_plane::TextPlane;
 use cells::texts::Texts;
-use lent::Lent;
 use model::{HitPolicy, Orientation, Refusal};
 
 // Which way a sheet is laid out, its hit policy, how many rules it has, and the rows of its upright sheet.
@@ -31,8 +37,8 @@ pub fn upright_sheet(sheet: TextPlane, out: &mut [u32]) -> Result<Stated, Refusa
     ensures sheet { stated_in result out.new ≡ stated_sheet (text_of sheet.entry.texts) (plane_of sheet.entry.plane) }
     ensures held { StatedHeld result out.new sheet.entry.texts.bytes.now sheet.entry.texts.spans.now sheet.entry.texts.count }
 {
-    let o = placement::orient(sheet)?;
-    let rows = turning::upright(o.orientation, sheet.plane, out)?;
+    let o = crate::placement::orient(sheet)?;
+    let rows = cells::turning::upright(o.orientation, sheet.plane, out)?;
     Ok(Stated {
         orientation: o.orientation,
         policy: o.policy,
@@ -53,7 +59,7 @@ pub fn lent_sheet(
     ensures sheet { stated_in result out.new ≡ lent_sheet (lists_of l.entry) }
     ensures held { StatedHeld result out.new l.entry.bytes.now spans.new (length l.entry.offsets.now) }
 {
-    let rows = lent::load(l, plane, spans)?;
+    let rows = crate::lent::load(l, plane, spans)?;
     let sheet = TextPlane {
         plane: Plane { cells: plane, rows },
         texts: Texts {

@@ -14,8 +14,8 @@ use Rattle.model.specs.declared.HitPolicy.{HitPolicy}
 use Rattle.model.specs.declared.HitPolicyPlacement.{HitPolicyPlacement}
 use Rattle.model.specs.declared.HitPolicyPlacement.TheVariants.{TopLeft, BottomLeft, NotPresent}
 use Rattle.cells.specs.Plane.{Plane}
-use Rattle.rule_numbers.specs.Numbering.{first, last, number_in, counted}
-use Rattle.placement.specs.Placement.{policy_in, corner_policy, bottom_left, placement_of}
+use Rattle.plane.specs.rule_numbers.Numbering.{first, last, number_in, counted}
+use Rattle.plane.specs.placement.Placement.{policy_in, corner_policy, bottom_left, placement_of}
 use Rattle.policies.proofs.RowsHaveCells.{HasCells}
 use Rattle.policies.proofs.NeverLaws.{Never, never_if, never_some}
 

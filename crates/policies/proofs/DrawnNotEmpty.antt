@@ -8,10 +8,10 @@ use Rattle.lists.proofs.AnswerLaws.{refused-ok}
 use Rattle.model.specs.Refusals.{Reading}
 use Rattle.model.specs.declared.Refusal.TheVariants.{PlaneEmpty}
 use Rattle.cells.specs.Plane.{TextPlane}
-use Rattle.outline.specs.declared.Outline.{Outline}
-use Rattle.rule_numbers.specs.Numbering.{first, counted}
-use Rattle.placement.specs.Placement.{placement_of}
-use Rattle.sheet_rows.specs.Rows.{rows_at}
+use Rattle.frames.specs.declared.outline.Outline.{Outline}
+use Rattle.plane.specs.rule_numbers.Numbering.{first, counted}
+use Rattle.plane.specs.placement.Placement.{placement_of}
+use Rattle.scan.specs.sheet_rows.Rows.{rows_at}
 use Rattle.walks.specs.Frame.{FrameFinder}
 use Rattle.canvas.specs.Layers.{sheet_by}
 use Rattle.policies.specs.DrawnPolicy.{drawn_plane_by, name_by, policy_by, walked_policy, drawn_policy}

@@ -14,15 +14,15 @@ use Rattle.lists.proofs.PictureLaws.{within_in}
 use Rattle.lists.proofs.Tests.{true_false}
 use Rattle.model.specs.Box.{┬, ╥}
 use Rattle.cells.specs.Plane.{TextPlane}
-use Rattle.thin_layer.specs.Thin.{thin_of}
+use Rattle.canvas.specs.thin_layer.Thin.{thin_of}
 use Rattle.policies.proofs.TopSideLaws.{tee_in_grid}
-use Rattle.outline.specs.declared.Outline.{Outline}
-use Rattle.outline.proofs.EdgeLaws.{Edged, outline_edged}
-use Rattle.outline.proofs.InsideLaws.{Inside, outline_inside}
-use Rattle.regions.specs.Regions.{Finder, is_corner}
-use Rattle.sheet_rows.specs.Rows.{rows_at, widest}
+use Rattle.frames.specs.declared.outline.Outline.{Outline}
+use Rattle.frames.proofs.outline.EdgeLaws.{Edged, outline_edged}
+use Rattle.frames.proofs.outline.InsideLaws.{Inside, outline_inside}
+use Rattle.frames.specs.regions.Regions.{Finder, is_corner}
+use Rattle.scan.specs.sheet_rows.Rows.{rows_at, widest}
 use Rattle.scan.specs.Rows.{blank, flat}
-use Rattle.plane_cells.specs.Row.{is_at}
+use Rattle.text_planes.specs.plane_cells.Row.{is_at}
 use Rattle.policies.proofs.PlaneHasRows.{plane_has_rows}
 use Rattle.policies.proofs.RowsHaveCells.{HasCells, rows_have_cells}
 use Rattle.walks.specs.Frame.{FrameFinder}

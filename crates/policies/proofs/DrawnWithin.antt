@@ -23,15 +23,15 @@ use Rattle.model.specs.declared.Rect.{Rect}
 use Rattle.model.specs.declared.Refusal.TheVariants.{OverLimit}
 use Rattle.cells.specs.Plane.{Plane, TextPlane}
 use Rattle.record.specs.Policy.{Text}
-use Rattle.outline.specs.declared.Outline.{Outline}
-use Rattle.regions.specs.Regions.{Finder, regions_of}
-use Rattle.lookup.specs.Lookup.{region_of}
-use Rattle.sheet_rows.specs.Rows.{widest}
-use Rattle.plane_cells.specs.Row.{Row, is_at, fitting, with_cell}
-use Rattle.plane_rows.specs.Rows.{Rows, output_line, annotation_line, add_line}
-use Rattle.step.specs.PlaneStep.{corners_in, add_cell, row_by, add_row, add_frames, add_grid_row, no_rows, rows_by, plane_by}
-use Rattle.texts.specs.RegionText.{text_of, packed, texts_of}
-use Rattle.texts.proofs.TextsLaws.{texts_are, texts_fit}
+use Rattle.frames.specs.declared.outline.Outline.{Outline}
+use Rattle.frames.specs.regions.Regions.{Finder, regions_of}
+use Rattle.frames.specs.lookup.Lookup.{region_of}
+use Rattle.scan.specs.sheet_rows.Rows.{widest}
+use Rattle.text_planes.specs.plane_cells.Row.{Row, is_at, fitting, with_cell}
+use Rattle.text_planes.specs.plane_rows.Rows.{Rows, output_line, annotation_line, add_line}
+use Rattle.text_planes.specs.step.PlaneStep.{corners_in, add_cell, row_by, add_row, add_frames, add_grid_row, no_rows, rows_by, plane_by}
+use Rattle.text_planes.specs.texts.RegionText.{text_of, packed, texts_of}
+use Rattle.text_planes.proofs.texts.TextsLaws.{texts_are, texts_fit}
 use Rattle.walks.specs.Frame.{FrameFinder, frame_of}
 use Rattle.walks.specs.Kinds as kind
 use Rattle.text_planes.specs.DrawnPlane.{text_plane_by}

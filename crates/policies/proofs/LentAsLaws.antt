@@ -20,14 +20,14 @@ use Rattle.model.specs.Limits.{plane_rows, plane_cells}
 use Rattle.model.specs.declared.Cell.{Cell}
 use Rattle.model.specs.declared.Cell.TheVariants.{Region, VerticalOutputDoubleLine, VerticalAnnotationDoubleLine, HorizontalOutputDoubleLine, HorizontalAnnotationsDoubleLine, MainDoubleCrossing, HorizontalDoubleCrossing, VerticalDoubleCrossing}
 use Rattle.cells.specs.Plane.{Plane, TextPlane}
-use Rattle.lent.specs.LentPlane.{LentPlane, sum, cut, all_at, known_cell, within_limits, counts_agree, cells_known, parts_good, well_formed, lent_cells, lent_text, lent_of}
-use Rattle.lent.proofs.AllAtLaws.{all_start, all_more}
-use Rattle.lent.proofs.CountLaws.{sizes_decide}
-use Rattle.lent.proofs.CutLaws.{row_cells, cut-rows}
-use Rattle.lent.proofs.FormLaws.{parts_decide, region-known, regions-few, rows_good, parts_good_lem}
-use Rattle.lent.proofs.KindLaws.{lent_cell, kind-region, known_at}
-use Rattle.lent.proofs.LimitLaws.{short, rows_decide}
-use Rattle.lent.proofs.SumLaws.{start_of, row_within}
+use Rattle.plane.specs.lent.LentPlane.{LentPlane, sum, cut, all_at, known_cell, within_limits, counts_agree, cells_known, parts_good, well_formed, lent_cells, lent_text, lent_of}
+use Rattle.plane.proofs.lent.AllAtLaws.{all_start, all_more}
+use Rattle.plane.proofs.lent.CountLaws.{sizes_decide}
+use Rattle.plane.proofs.lent.CutLaws.{row_cells, cut-rows}
+use Rattle.plane.proofs.lent.FormLaws.{parts_decide, region-known, regions-few, rows_good, parts_good_lem}
+use Rattle.plane.proofs.lent.KindLaws.{lent_cell, kind-region, known_at}
+use Rattle.plane.proofs.lent.LimitLaws.{short, rows_decide}
+use Rattle.plane.proofs.lent.SumLaws.{start_of, row_within}
 use Rattle.plane.proofs.RegionsKept.{RegionsBelow}
 use Rattle.policies.specs.TurnedPlane.{region_number, lent_as}
 

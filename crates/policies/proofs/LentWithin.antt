@@ -14,10 +14,10 @@ use Rattle.model.specs.Limits.{plane_rows, plane_cells, text_bytes}
 use Rattle.model.specs.Refusals.{Reading}
 use Rattle.model.specs.declared.Cell.{Cell}
 use Rattle.model.specs.declared.Refusal.TheVariants.{LentPlaneMalformed}
-use Rattle.white_space.proofs.TrimLength.{trim-length}
+use Rattle.characters.proofs.white_space.TrimLength.{trim-length}
 use Rattle.cells.specs.Plane.{TextPlane}
-use Rattle.lent.specs.LentPlane.{LentPlane, cut, well_formed, lent_cells, lent_text, lent_of}
-use Rattle.lent.proofs.FormLaws.{rows_good, parts_good_lem}
+use Rattle.plane.specs.lent.LentPlane.{LentPlane, cut, well_formed, lent_cells, lent_text, lent_of}
+use Rattle.plane.proofs.lent.FormLaws.{rows_good, parts_good_lem}
 use Rattle.policies.proofs.UprightWithin.{Within, PlaneWithin}
 
 length_cut : (rows : List ℕ) (cells : List Cell) → length (cut rows cells) ≡ length rows

@@ -17,19 +17,19 @@ use Rattle.model.specs.declared.Cell.{Cell}
 use Rattle.model.specs.declared.Rect.{Rect}
 use Rattle.model.specs.declared.Refusal.TheVariants.{InvalidUtf8}
 use Rattle.frames.specs.Body.{body_of}
-use Rattle.along.specs.Characters.{along_of}
-use Rattle.along.specs.declared.Lines.TheVariants.{Body}
-use Rattle.outline.specs.Outline.{search_from, search_of, named_by, table_of, outline_by}
-use Rattle.outline.specs.declared.Outline.{Outline}
-use Rattle.regions.specs.Regions.{Finder, corners_of, add_region, regions_by}
-use Rattle.lookup.specs.Lookup.{region_from, region_of}
-use Rattle.sheet_rows.specs.Rows.{rows_at, widest}
+use Rattle.walks.specs.along.Characters.{along_of}
+use Rattle.walks.specs.declared.along.Lines.TheVariants.{Body}
+use Rattle.frames.specs.outline.Outline.{search_from, search_of, named_by, table_of, outline_by}
+use Rattle.frames.specs.declared.outline.Outline.{Outline}
+use Rattle.frames.specs.regions.Regions.{Finder, corners_of, add_region, regions_by}
+use Rattle.frames.specs.lookup.Lookup.{region_from, region_of}
+use Rattle.scan.specs.sheet_rows.Rows.{rows_at, widest}
 use Rattle.scan.specs.Canvas.{fits, size_of}
-use Rattle.plane_cells.specs.Row.{Row, is_at, fitting, with_cell}
-use Rattle.plane_rows.specs.Rows.{Rows, output_line, annotation_line, add_line}
-use Rattle.step.specs.PlaneStep.{corners_in, add_cell, row_by, add_row, add_frames, add_grid_row, no_rows, rows_by, plane_by}
-use Rattle.texts.specs.RegionText.{text_of, packed, texts_of}
-use Rattle.utf8.specs.Utf8.{checked, on_text}
+use Rattle.text_planes.specs.plane_cells.Row.{Row, is_at, fitting, with_cell}
+use Rattle.text_planes.specs.plane_rows.Rows.{Rows, output_line, annotation_line, add_line}
+use Rattle.text_planes.specs.step.PlaneStep.{corners_in, add_cell, row_by, add_row, add_frames, add_grid_row, no_rows, rows_by, plane_by}
+use Rattle.text_planes.specs.texts.RegionText.{text_of, packed, texts_of}
+use Rattle.characters.specs.utf8.Utf8.{checked, on_text}
 use Rattle.walks.specs.Frame.{FrameFinder, Kind, frame_of}
 use Rattle.walks.specs.Kinds as kind
 use Rattle.walks.specs.Sides.{given, frame_at, by_sides}

@@ -25,15 +25,15 @@ use Rattle.model.specs.declared.RuleNumbersPlacement.{RuleNumbersPlacement}
 use Rattle.model.specs.declared.RuleNumbersPlacement.TheVariants as place
 use Rattle.cells.specs.Plane.{Plane}
 use Rattle.record.specs.Policy.{Text}
-use Rattle.placement.specs.Orientation.{as_rows, as_columns, as_cross_tab, oriented_by, oriented_of, holds}
-use Rattle.rule_numbers.specs.Numbering.{first, last, place_behind, number_in, counted, counted_behind, numbers_left, numbers_right, right_of, rule_numbers_of}
-use Rattle.placement.specs.Placement.{placement_of}
-use Rattle.turning.specs.Upright.{but_last, wide, pivot_of, upright_of}
+use Rattle.plane.specs.placement.Orientation.{as_rows, as_columns, as_cross_tab, oriented_by, oriented_of, holds}
+use Rattle.plane.specs.rule_numbers.Numbering.{first, last, place_behind, number_in, counted, counted_behind, numbers_left, numbers_right, right_of, rule_numbers_of}
+use Rattle.plane.specs.placement.Placement.{placement_of}
+use Rattle.cells.specs.turning.Upright.{but_last, wide, pivot_of, upright_of}
 use Rattle.plane.specs.Sheet.{stated_sheet}
-use Rattle.cell_tests.specs.Readings.{refuse}
-use Rattle.cell_tests.specs.SheetCells.{width_of, cell_in, region_at, column_is, columns_are}
-use Rattle.allowed.specs.Allowed.{allowed_two, allowed_three, allowed_of}
-use Rattle.allowed.specs.Apart.{Met, twice, once, meet_row, on_met, apart_from, all_apart}
+use Rattle.clauses.specs.cell_tests.Readings.{refuse}
+use Rattle.clauses.specs.cell_tests.SheetCells.{width_of, cell_in, region_at, column_is, columns_are}
+use Rattle.clauses.specs.allowed.Allowed.{allowed_two, allowed_three, allowed_of}
+use Rattle.clauses.specs.allowed.Apart.{Met, twice, once, meet_row, on_met, apart_from, all_apart}
 use Rattle.clauses.specs.Clauses.{Found, main_of, outputs_end, text_at, optional_at, entries_of, one_output, many_outputs, outputs_of, notes_of, found_from, found_of}
 use Rattle.clauses.specs.Readings.{along}
 use Rattle.cells.specs.declared.place.Place.{Place}

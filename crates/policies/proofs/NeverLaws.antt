@@ -10,7 +10,7 @@ use Rattle.lists.specs.Answer.{◌>>=◌, each}
 use Rattle.lists.specs.Choose.{choose, on_some}
 use Rattle.model.specs.Refusals.{Reading, numbers}
 use Rattle.model.specs.declared.Refusal.{Refusal}
-use Rattle.cell_tests.specs.Readings.{refuse, every}
+use Rattle.clauses.specs.cell_tests.Readings.{refuse, every}
 use Rattle.clauses.specs.Readings.{along}
 
 -- it answers, or is refused by another number

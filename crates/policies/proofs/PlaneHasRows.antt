@@ -20,11 +20,11 @@ use Rattle.model.specs.declared.Cell.{Cell}
 use Rattle.model.specs.declared.Rect.{Rect}
 use Rattle.model.specs.declared.Refusal.TheVariants.{OverLimit}
 use Rattle.cells.specs.Plane.{Plane}
-use Rattle.outline.specs.declared.Outline.{Outline}
-use Rattle.regions.specs.Regions.{Finder}
-use Rattle.plane_cells.specs.Row.{Row, is_at}
-use Rattle.plane_rows.specs.Rows.{Rows, output_line, annotation_line, add_line}
-use Rattle.step.specs.PlaneStep.{row_by, add_row, add_frames, add_grid_row, no_rows, rows_by, plane_by}
+use Rattle.frames.specs.declared.outline.Outline.{Outline}
+use Rattle.frames.specs.regions.Regions.{Finder}
+use Rattle.text_planes.specs.plane_cells.Row.{Row, is_at}
+use Rattle.text_planes.specs.plane_rows.Rows.{Rows, output_line, annotation_line, add_line}
+use Rattle.text_planes.specs.step.PlaneStep.{row_by, add_row, add_frames, add_grid_row, no_rows, rows_by, plane_by}
 
 -- a loop over the numbers at which h holds: what each turn takes one number on, the loop takes from its first number to its end
 module _ {R S : Type 0} (h : ℕ → Bool) (f : ℕ → S → Result S R) where

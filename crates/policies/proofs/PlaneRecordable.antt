@@ -15,16 +15,16 @@ use Rattle.record.specs.Record.{slots_in, slot_texts, table_of}
 use Rattle.record.specs.Slots.{slot_limit}
 use Rattle.record.proofs.PolicyTexts.{texts-counted}
 use Rattle.record.proofs.TotalFits.{total-fits}
-use Rattle.placement.specs.Orientation.{oriented_of}
-use Rattle.turning.specs.Upright.{upright_of}
+use Rattle.plane.specs.placement.Orientation.{oriented_of}
+use Rattle.cells.specs.turning.Upright.{upright_of}
 use Rattle.plane.specs.Sheet.{Sheet, stated_sheet}
 use Rattle.plane.proofs.SomeRules.{some-rules}
-use Rattle.cell_tests.specs.SheetCells.{width_of}
+use Rattle.clauses.specs.cell_tests.SheetCells.{width_of}
 use Rattle.clauses.specs.Shape.{checked_shape}
 use Rattle.clauses.specs.declared.Shape.{Shape}
 use Rattle.clauses.proofs.ShapeColumns.{shape_columns}
 use Rattle.clauses.proofs.SpelledStated.{checked_matches, counted_stated}
-use Rattle.slots.proofs.ShapeRoom.{few-slots}
+use Rattle.recognizer.proofs.slots.ShapeRoom.{few-slots}
 use Rattle.recognizer.specs.StatedPolicy.{sheet_policy, stated_policy}
 use Rattle.recognizer.proofs.Recognizing.{with, with_texts_lem, by_shape, stated, complete, texts-spelled}
 use Rattle.policies.specs.Recordable.{Recordable}

@@ -25,14 +25,14 @@ use Rattle.model.specs.declared.Cell.TheVariants.{Region}
 use Rattle.model.specs.declared.Rect.{Rect}
 use Rattle.model.specs.declared.Refusal.TheVariants.{OverLimit}
 use Rattle.cells.specs.Plane.{Plane}
-use Rattle.outline.specs.declared.Outline.{Outline}
-use Rattle.regions.specs.Regions.{Finder, is_corner}
-use Rattle.lookup.specs.Lookup.{region_of}
-use Rattle.plane_cells.specs.Row.{Row, is_at, fitting, output_before, annotation_before, with_cell}
-use Rattle.plane_rows.specs.Rows.{Rows, output_line, annotation_line, add_line}
-use Rattle.step.specs.PlaneStep.{add_cell, row_by, add_row, add_frames, add_grid_row, no_rows, rows_by, plane_by}
+use Rattle.frames.specs.declared.outline.Outline.{Outline}
+use Rattle.frames.specs.regions.Regions.{Finder, is_corner}
+use Rattle.frames.specs.lookup.Lookup.{region_of}
+use Rattle.text_planes.specs.plane_cells.Row.{Row, is_at, fitting, output_before, annotation_before, with_cell}
+use Rattle.text_planes.specs.plane_rows.Rows.{Rows, output_line, annotation_line, add_line}
+use Rattle.text_planes.specs.step.PlaneStep.{add_cell, row_by, add_row, add_frames, add_grid_row, no_rows, rows_by, plane_by}
 use Rattle.policies.proofs.PlaneHasRows.{each_through}
-use Rattle.step.proofs.RegionsAmong.{fitted}
+use Rattle.text_planes.proofs.step.RegionsAmong.{fitted}
 
 abbrev pub HasCells : List Cell → Type 0
 HasCells r = 0 < length r

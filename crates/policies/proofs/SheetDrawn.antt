@@ -7,11 +7,11 @@ use Prim.Native.Nat.{ℕ}
 use lib.ListN.{length}
 use Rattle.lists.proofs.AnswerLaws.{refused-ok}
 use Rattle.lists.proofs.Tests.{by_flag}
-use Rattle.outline.specs.Outline.{outline_by}
-use Rattle.outline.specs.declared.Outline.{Outline}
-use Rattle.sheet_rows.specs.Rows.{rows_at, widest}
+use Rattle.frames.specs.outline.Outline.{outline_by}
+use Rattle.frames.specs.declared.outline.Outline.{Outline}
+use Rattle.scan.specs.sheet_rows.Rows.{rows_at, widest}
 use Rattle.scan.specs.Canvas.{fits, size_of}
-use Rattle.utf8.specs.Utf8.{checked}
+use Rattle.characters.specs.utf8.Utf8.{checked}
 use Rattle.walks.specs.Frame.{FrameFinder}
 use Rattle.canvas.specs.Layers.{text_layer, drawing_by, sheet_by}
 

@@ -15,7 +15,7 @@ use Rattle.record.specs.Record.{bytes_of}
 use Rattle.values.specs.Values.{values_of}
 use Rattle.values.proofs.ValueLaws.{split-length}
 use Rattle.values.proofs.DefaultLength.{default-length}
-use Rattle.cell_tests.specs.SheetCells.{region_at}
+use Rattle.clauses.specs.cell_tests.SheetCells.{region_at}
 use Rattle.clauses.specs.Clauses.{present}
 use Rattle.clauses.specs.Spelled.{join_run, read_or, cell_text, whole, optional, row_texts, first_output, values_row, names_row, label_text, input_text, values_text, output_text, note_texts, entry_texts, spelled}
 use Rattle.clauses.specs.Stated.{allowed_text, default_text}

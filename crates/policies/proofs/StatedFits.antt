@@ -8,8 +8,8 @@ use Rattle.lists.proofs.AnswerLaws.{then_ok}
 use Rattle.record.specs.Policy.{Policy}
 use Rattle.record.specs.Record.{slots_in, table_of}
 use Rattle.record.specs.Slots.{slot_limit}
-use Rattle.lent.specs.LentPlane.{LentPlane, lent_of}
-use Rattle.sheet_rows.specs.Rows.{rows_at}
+use Rattle.plane.specs.lent.LentPlane.{LentPlane, lent_of}
+use Rattle.scan.specs.sheet_rows.Rows.{rows_at}
 use Rattle.walks.specs.Frame.{frame_of}
 use Rattle.canvas.specs.Layers.{sheet_by}
 use Rattle.policies.specs.DrawnPolicy.{drawn_plane_by, name_by, policy_by, walked_policy}

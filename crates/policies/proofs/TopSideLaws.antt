@@ -11,9 +11,9 @@ use Rattle.lists.specs.Picture.{Picture, in_rect}
 use Rattle.lists.proofs.RectLaws.{rect_is}
 use Rattle.model.specs.Box.{┬}
 use Rattle.model.specs.declared.Rect.{Rect}
-use Rattle.body_layer.specs.Body.{top_of, body_code, body_picture}
-use Rattle.grid_layer.specs.Grid.{across, down, carried_code, carried_at, rows_carried, columns_carried, grid_picture}
-use Rattle.grid_layer.specs.declared.Stroke.{Stroke}
+use Rattle.canvas.specs.body_layer.Body.{top_of, body_code, body_picture}
+use Rattle.canvas.specs.grid_layer.Grid.{across, down, carried_code, carried_at, rows_carried, columns_carried, grid_picture}
+use Rattle.canvas.specs.declared.grid_layer.Stroke.{Stroke}
 
 -- a character that is not changed where its line is carried across stays whether or not it is
 stays : (d : Stroke) (off n : ℕ) (g : ℕ → ℕ) (k c : ℕ) → g k ≡ c → carried_code d off n k c ≡ c → carried_at d off n g k ≡ c

@@ -17,9 +17,9 @@ use Rattle.model.specs.declared.Cell.TheVariants.{MainDoubleCrossing}
 use Rattle.model.specs.declared.Orientation.TheVariants.{RulesAsRows, RulesAsColumns}
 use Rattle.cells.specs.Plane.{Plane, TextPlane}
 use Rattle.record.specs.Policy.{Policy}
-use Rattle.lent.specs.LentPlane.{LentPlane, cut, lent_cells, lent_of}
-use Rattle.rule_numbers.specs.Numbering.{last}
-use Rattle.turning.specs.Upright.{but_last, turned}
+use Rattle.plane.specs.lent.LentPlane.{LentPlane, cut, lent_cells, lent_of}
+use Rattle.plane.specs.rule_numbers.Numbering.{last}
+use Rattle.cells.specs.turning.Upright.{but_last, turned}
 use Rattle.plane.specs.Sheet.{Sheet, stated_sheet, last_first}
 use Rattle.plane.proofs.RegionsKept.{RegionsBelow, turned_below, but_below}
 use Rattle.plane.proofs.TurnedColumnSheet.{in_rows, turned_column_sheet}

@@ -17,7 +17,7 @@ use Rattle.model.specs.declared.Cell.TheVariants.{MainDoubleCrossing}
 use Rattle.model.specs.declared.Orientation.{Orientation}
 use Rattle.model.specs.declared.Orientation.TheVariants.{RulesAsRows, RulesAsColumns}
 use Rattle.cells.specs.Plane.{Plane, TextPlane}
-use Rattle.turning.specs.Upright.{but_last, turned, upright_of}
+use Rattle.cells.specs.turning.Upright.{but_last, turned, upright_of}
 use Rattle.plane.proofs.TurnedColumnSheet.{pivot_ok}
 use Rattle.policies.specs.LentPolicy.{text_in}
 

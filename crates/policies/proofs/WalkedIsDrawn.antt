@@ -17,16 +17,16 @@ use Rattle.model.specs.declared.Rect.{Rect}
 use Rattle.model.specs.declared.Refusal.TheVariants.{InvalidUtf8}
 use Rattle.cells.specs.Plane.{Plane, TextPlane}
 use Rattle.record.specs.Policy.{Text, Policy}
-use Rattle.outline.specs.Outline.{search_of, named_by, table_of, outline_by}
-use Rattle.outline.specs.declared.Outline.{Outline}
-use Rattle.regions.specs.Regions.{regions_by}
-use Rattle.regions.proofs.WalkedIsDrawn.{regions_below}
-use Rattle.sheet_rows.specs.Rows.{rows_at, widest}
+use Rattle.frames.specs.outline.Outline.{search_of, named_by, table_of, outline_by}
+use Rattle.frames.specs.declared.outline.Outline.{Outline}
+use Rattle.frames.specs.regions.Regions.{regions_by}
+use Rattle.frames.proofs.regions.WalkedIsDrawn.{regions_below}
+use Rattle.scan.specs.sheet_rows.Rows.{rows_at, widest}
 use Rattle.scan.specs.Canvas.{size_of}
-use Rattle.step.specs.PlaneStep.{plane_by}
-use Rattle.step.proofs.WalkedIsDrawn.{plane_below}
-use Rattle.texts.specs.RegionText.{text_of, texts_of}
-use Rattle.utf8.specs.Utf8.{checked, on_text}
+use Rattle.text_planes.specs.step.PlaneStep.{plane_by}
+use Rattle.text_planes.proofs.step.WalkedIsDrawn.{plane_below}
+use Rattle.text_planes.specs.texts.RegionText.{text_of, texts_of}
+use Rattle.characters.specs.utf8.Utf8.{checked, on_text}
 use Rattle.walks.specs.Frame.{FrameFinder, Kind, frame_of}
 use Rattle.walks.specs.Kinds as kind
 use Rattle.walks.specs.Sides.{by_sides}

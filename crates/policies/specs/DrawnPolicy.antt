@@ -4,9 +4,9 @@ use Rattle.lists.specs.Answer.{◌>>=◌}
 use Rattle.model.specs.Refusals.{Reading}
 use Rattle.cells.specs.Plane.{TextPlane}
 use Rattle.record.specs.Policy.{Text, Policy}
-use Rattle.outline.specs.declared.Outline.{Outline}
-use Rattle.sheet_rows.specs.Rows.{rows_at, widest}
-use Rattle.texts.specs.RegionText.{text_of}
+use Rattle.frames.specs.declared.outline.Outline.{Outline}
+use Rattle.scan.specs.sheet_rows.Rows.{rows_at, widest}
+use Rattle.text_planes.specs.texts.RegionText.{text_of}
 use Rattle.walks.specs.Frame.{FrameFinder, frame_of}
 use Rattle.walks.specs.Kinds as kind
 use Rattle.walks.specs.Sides.{by_sides}

@@ -4,7 +4,7 @@ use Rattle.lists.specs.Answer.{◌>>=◌}
 use Rattle.model.specs.Refusals.{Reading}
 use Rattle.cells.specs.Plane.{TextPlane}
 use Rattle.record.specs.Policy.{Policy}
-use Rattle.lent.specs.LentPlane.{LentPlane, lent_of}
+use Rattle.plane.specs.lent.LentPlane.{LentPlane, lent_of}
 use Rattle.recognizer.specs.StatedPolicy.{stated_policy}
 
 -- the text of a region

@@ -2,7 +2,7 @@
 use Rattle.std.specs.Prelude.{List, ℕ}
 use Rattle.model.specs.Refusals.{Reading}
 use Rattle.record.specs.Policy.{Policy}
-use Rattle.lent.specs.LentPlane.{LentPlane}
+use Rattle.plane.specs.lent.LentPlane.{LentPlane}
 use Rattle.policies.specs.DrawnPolicy.{drawn_policy}
 use Rattle.policies.specs.LentPolicy.{lent_policy}
 

@@ -5,8 +5,8 @@ use Rattle.lists.specs.Choose.{on_some}
 use Rattle.model.specs.Cells.{kind_of, region_of}
 use Rattle.model.specs.declared.Cell.{Cell}
 use Rattle.cells.specs.Plane.{Plane}
-use Rattle.lent.specs.LentPlane.{LentPlane, cut, lent_cells}
-use Rattle.turning.specs.Upright.{turned}
+use Rattle.plane.specs.lent.LentPlane.{LentPlane, cut, lent_cells}
+use Rattle.cells.specs.turning.Upright.{turned}
 use Rattle.plane.specs.Sheet.{last_first}
 
 -- the region number that is lent with a cell's kind; 0 with a kind that ignores it

@@ -3,6 +3,8 @@
 // capacity, since nothing is allocated.
 #![tactic(auto)]
 
+pub mod listing;
+
 ghost use Rattle.std.specs.Prelude.{◌∷◌, ◌+◌, ◌*◌, ◌≤◌, length};
 ghost use Rattle.arrayvec.specs.ArrayVec.{array_vec_len};
 ghost use Rattle.model.specs.Refusals.{numbers};

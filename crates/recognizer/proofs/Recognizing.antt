@@ -23,10 +23,10 @@ use Rattle.clauses.specs.declared.Shape.{Shape}
 use Rattle.clauses.proofs.Apart.{found_as}
 use Rattle.clauses.proofs.ClausesApart.{clauses_apart}
 use Rattle.clauses.proofs.SpelledStated.{spelled_stated, counted_stated, complete_stated}
-use Rattle.slot_runs.specs.Spelt.{Spelt}
-use Rattle.slot_runs.specs.declared.Filled.{Filled}
-use Rattle.slots.proofs.ShapeRoom.{room-all}
-use Rattle.writer.specs.SlotTexts.{texts_from}
+use Rattle.recognizer.specs.slot_runs.Spelt.{Spelt}
+use Rattle.recognizer.specs.declared.slot_runs.Filled.{Filled}
+use Rattle.recognizer.proofs.slots.ShapeRoom.{room-all}
+use Rattle.record.specs.writer.SlotTexts.{texts_from}
 use Rattle.recognizer.specs.StatedPolicy.{sheet_policy, stated_policy}
 use Rattle.recognizer.specs.Told.{table_read, table_in, TableHeld}
 use Rattle.recognizer.specs.declared.SlotTable.{SlotTable}

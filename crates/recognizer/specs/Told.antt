@@ -7,7 +7,7 @@ use Rattle.model.specs.Refusals.{Reading}
 use Rattle.record.specs.Policy.{Text, Policy}
 use Rattle.record.specs.Record.{Table, packed, slot_count, table_of}
 use Rattle.record.specs.Slots.{offset_at, length_at, slot_limit}
-use Rattle.writer.specs.SlotTexts.{texts_from}
+use Rattle.record.specs.writer.SlotTexts.{texts_from}
 use Rattle.recognizer.specs.declared.SlotTable.{SlotTable}
 
 -- a policy's table, if it is not refused

@@ -1,6 +1,11 @@
 // The policy that a plane states, as the numbers of a table and the slots of its texts.
 #![tactic(auto)]
 
+pub mod records;
+pub mod slot_runs;
+pub mod slots;
+pub mod tables;
+
 ghost use Rattle.std.specs.Prelude.{◌≡◌, ℕ, ◌*◌, ◌≤◌, ◌<◌, length, get_or};
 ghost use Rattle.model.specs.Limits.{text_bytes};
 ghost use Rattle.cells.specs.Slices.{plane_of, text_of};
@@ -36,7 +41,7 @@ fn recognize_sheet(sheet: TextPlane, s: Stated, slots: &mut [u32]) -> Result<Slo
 {
     let f = clauses::checked_shape(sheet.plane, s.rules)?;
     let rules = s.rules as usize;
-    let e = slots::fill(sheet, slots, f, rules);
+    let e = crate::slots::fill(sheet, slots, f, rules);
     Ok(SlotTable {
         policy: s.policy,
         orientation: s.orientation,

@@ -3,3 +3,5 @@ pub mod Record
 pub mod Compared
 pub mod Slots
 pub mod Written
+pub mod record_texts
+pub mod writer

@@ -3,6 +3,9 @@
 // No writer either: a text is written at two places, its slot's and its own, and the first of them is told by the slot's number.
 #![tactic(auto)]
 
+pub mod record_texts;
+pub mod writer;
+
 ghost use Rattle.std.specs.Prelude.{[], ◌∷◌, ◌++◌, ◌≡◌, ◌+◌, ◌*◌, ◌<◌, ◌≤◌, ◌^◌, length};
 ghost use Rattle.lists.specs.Put.{put};
 ghost use Rattle.record.specs.Record.{word, words, slot_offset, text_offset};

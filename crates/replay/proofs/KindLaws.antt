@@ -7,7 +7,7 @@ use mathlib.Core.List.{List, [], ◌∷◌}
 use Prim.Native.Nat.{ℕ}
 use lib.Dec.{eqb}
 use lib.Pointwise.{pointwise}
-use Rattle.hit_policies.specs.Letters.{same_text}
+use Rattle.plane.specs.hit_policies.Letters.{same_text}
 use Rattle.replay.specs.Kinds.{split_word, drawing_word, plane_word, sheet_word, table_word, kind_of}
 use Rattle.replay.specs.declared.Kind.TheVariants.{Split, Drawing, Plane, Sheet, Table}
 

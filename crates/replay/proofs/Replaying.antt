@@ -10,11 +10,11 @@ use lib.ListN.{length, take, drop, drop_of_length-le}
 use lib.Seq.{take-add, length-take-le}
 use Rattle.lists.proofs.Parts.{at_cons, part_add, part_end}
 use Rattle.model.specs.Limits.{text_bytes}
-use Rattle.numerals.specs.RuleNumbers.{number_of}
+use Rattle.plane.specs.numerals.RuleNumbers.{number_of}
 use Rattle.print.specs.Lines.{blank, line_feed}
-use Rattle.lent_lists.specs.LentText.{◌>>=◌}
-use Rattle.lines.specs.Texts.{before, FirstAt, text_of}
-use Rattle.lines.specs.Room.{line_bytes}
+use Rattle.answers.specs.lent_lists.LentText.{◌>>=◌}
+use Rattle.answers.specs.lines.Texts.{before, FirstAt, text_of}
+use Rattle.answers.specs.lines.Room.{line_bytes}
 use Rattle.replay.specs.Answers.{text_answer, answer_by, answer_of, AnsweredIn, Replayed, nothing, line, Stopped}
 use Rattle.replay.specs.Kinds.{kind_of, word_of, rest_of}
 use Rattle.replay.specs.declared.Kind.{Kind}

@@ -4,14 +4,14 @@ use Rattle.std.specs.Option.{option_map}
 use Rattle.policies.specs.DrawnPolicy.{walked_policy}
 use Rattle.print.specs.Decimal.{Written}
 use Rattle.print.specs.Lines.{line_feed}
-use Rattle.lent_lists.specs.LentText.{◌>>=◌, lent_in}
-use Rattle.lines.specs.Texts.{before, text_of}
-use Rattle.drawings.specs.DrawingLines.{drawing_lines}
-use Rattle.lines.specs.Room.{line_bytes}
+use Rattle.answers.specs.lent_lists.LentText.{◌>>=◌, lent_in}
+use Rattle.answers.specs.lines.Texts.{before, text_of}
+use Rattle.answers.specs.drawings.DrawingLines.{drawing_lines}
+use Rattle.answers.specs.lines.Room.{line_bytes}
 use Rattle.answers.specs.SplitLines.{split_line}
-use Rattle.outcome_lines.specs.PolicyLines.{record_bytes, policy_lines}
-use Rattle.lent_answers.specs.Lines.{lines_by}
-use Rattle.lent_answers.specs.declared.Asked.TheVariants.{Upright, Record}
+use Rattle.reports.specs.outcome_lines.PolicyLines.{record_bytes, policy_lines}
+use Rattle.answers.specs.lent_answers.Lines.{lines_by}
+use Rattle.answers.specs.declared.lent_answers.Asked.TheVariants.{Upright, Record}
 use Rattle.replay.specs.Kinds.{kind_of, word_of, rest_of}
 use Rattle.replay.specs.declared.Kind.{Kind}
 use Rattle.replay.specs.declared.Kind.TheVariants.{Split, Drawing, Plane, Sheet, Table}

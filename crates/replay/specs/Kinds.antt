@@ -1,9 +1,9 @@
 -- The word that a line begins with.
 use Rattle.std.specs.Prelude.{List, [], ◌∷◌, ℕ, suc, length, drop, Option, None, Some}
 use Rattle.lists.specs.Choose.{choose}
-use Rattle.hit_policies.specs.Letters.{same_text}
+use Rattle.plane.specs.hit_policies.Letters.{same_text}
 use Rattle.print.specs.Lines.{blank}
-use Rattle.lines.specs.Texts.{before}
+use Rattle.answers.specs.lines.Texts.{before}
 use Rattle.replay.specs.declared.Kind.{Kind}
 use Rattle.replay.specs.declared.Kind.TheVariants.{Split, Drawing, Plane, Sheet, Table}
 

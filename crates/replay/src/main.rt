@@ -6,13 +6,13 @@
 ghost use Rattle.std.specs.Prelude.{◌≡◌, ◌+◌, ◌≤◌, length, take};
 ghost use Rattle.arrayvec.specs.ArrayVec.{array_vec_len};
 ghost use Rattle.model.specs.Limits.{text_bytes};
-ghost use Rattle.lines.specs.Room.{line_bytes};
+ghost use Rattle.answers.specs.lines.Room.{line_bytes};
 ghost use Rattle.replay.specs.Kinds.{kind_of};
 ghost use Rattle.replay.specs.Answers.{text_answer, answer_by, answer_of, AnsweredIn, Replayed, Stopped};
 
+use answers::lent_answers::Asked;
+use answers::lines::LINE_BYTES;
 use arrayvec::ArrayVec;
-use lent_answers::Asked;
-use lines::LINE_BYTES;
 use model::limits::TEXT_BYTES;
 use std::io::{self, Read, Write};
 
@@ -57,12 +57,12 @@ fn answer_text<const N: usize>(kind: Kind, text: &[u8], out: &mut ArrayVec<u8, N
             Some(())
         }
         Kind::Drawing => {
-            drawings::put_drawing(out, text);
+            answers::drawings::put_drawing(out, text);
             Some(())
         }
         Kind::Plane => {
-            let l = lent_lists::lists_in(text)?;
-            lent_answers::put_lent(out, Asked::Upright, l);
+            let l = answers::lent_lists::lists_in(text)?;
+            answers::lent_answers::put_lent(out, Asked::Upright, l);
             Some(())
         }
         Kind::Sheet => {
@@ -70,8 +70,8 @@ fn answer_text<const N: usize>(kind: Kind, text: &[u8], out: &mut ArrayVec<u8, N
             Some(())
         }
         Kind::Table => {
-            let l = lent_lists::lists_in(text)?;
-            lent_answers::put_lent(out, Asked::Record, l);
+            let l = answers::lent_lists::lists_in(text)?;
+            answers::lent_answers::put_lent(out, Asked::Record, l);
             Some(())
         }
     }
@@ -82,7 +82,7 @@ fn answer_by<const N: usize>(kind: Kind, rest: &[u8], out: &mut ArrayVec<u8, N>)
     requires { array_vec_len out.old + line_bytes ≤ N }
     ensures { AnsweredIn result (answer_by kind text_bytes rest.now) out.old.items out.new.items }
 {
-    let text: ArrayVec<u8, TEXT_BYTES> = lines::read_text(rest)?;
+    let text: ArrayVec<u8, TEXT_BYTES> = answers::lines::read_text(rest)?;
     answer_text(kind, text.as_slice(), out)
 }
 
@@ -91,7 +91,7 @@ fn answer_line<const N: usize>(line: &[u8], out: &mut ArrayVec<u8, N>) -> Option
     requires { array_vec_len out.old + line_bytes ≤ N }
     ensures { AnsweredIn result (answer_of text_bytes line.now) out.old.items out.new.items }
 {
-    let end = lines::find(line, 0, 0x20);
+    let end = answers::lines::find(line, 0, 0x20);
     if end == line.len() {
         return None;
     }
@@ -117,7 +117,7 @@ fn answer_lines<const N: usize>(input: &[u8], out: &mut ArrayVec<u8, N>) -> Prog
     let mut at: usize = 0;
     // No `for`: each turn goes on by a line.
     while at < input.len() {
-        let end = lines::find(input, at, 0x0A);
+        let end = answers::lines::find(input, at, 0x0A);
         if end == input.len() {
             return Progress { at, is_good: true };
         }

@@ -1,15 +1,18 @@
 // What is printed for a sheet.
 #![tactic(auto)]
 
+pub mod lent_reports;
+pub mod outcome_lines;
+
 ghost use Rattle.std.specs.Prelude.{◌+◌, ◌≤◌};
 ghost use Rattle.arrayvec.specs.ArrayVec.{array_vec_len};
 ghost use Rattle.policies.specs.DrawnPolicy.{walked_policy};
 ghost use Rattle.print.specs.Decimal.{Written};
-ghost use Rattle.outcome_lines.specs.PolicyLines.{record_bytes, policy_lines, report_bytes};
+ghost use Rattle.reports.specs.outcome_lines.PolicyLines.{record_bytes, policy_lines, report_bytes};
 
+use crate::outcome_lines::RECORD_BYTES;
 use arrayvec::ArrayVec;
 use model::limits::CANVAS_SIZE;
-use outcome_lines::RECORD_BYTES;
 
 // The lines for a sheet.
 pub fn put_sheet<const N: usize>(out: &mut ArrayVec<u8, N>, s: &[u8])
@@ -34,5 +37,5 @@ pub fn put_sheet<const N: usize>(out: &mut ArrayVec<u8, N>, s: &[u8])
         &mut bytes,
         &mut record,
     );
-    outcome_lines::put_outcome(out, drawn, &record);
+    crate::outcome_lines::put_outcome(out, drawn, &record);
 }

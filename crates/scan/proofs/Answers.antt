@@ -15,11 +15,11 @@ use Rattle.lists.proofs.Tests.{by_flag, both}
 use Rattle.model.specs.Limits.{canvas_rows, canvas_columns, canvas_size}
 use Rattle.model.specs.Refusals.{Reading}
 use Rattle.model.specs.declared.Refusal.TheVariants.{CanvasTooLarge}
-use Rattle.utf8.specs.Utf8.{SameCheck}
-use Rattle.sheet_rows.specs.Found.{StartAt, Measured, rows_in, Counted, Kept}
-use Rattle.sheet_rows.specs.declared.Extent.{Extent}
-use Rattle.sheet_rows.specs.declared.Row.{Row}
-use Rattle.sheet_rows.specs.Rows.{rows_at, widest}
+use Rattle.characters.specs.utf8.Utf8.{SameCheck}
+use Rattle.scan.specs.sheet_rows.Found.{StartAt, Measured, rows_in, Counted, Kept}
+use Rattle.scan.specs.declared.sheet_rows.Extent.{Extent}
+use Rattle.scan.specs.declared.sheet_rows.Row.{Row}
+use Rattle.scan.specs.sheet_rows.Rows.{rows_at, widest}
 use Rattle.scan.specs.Canvas.{Size, fits, size_of, text_in, blanks_in, scanned_in, Ended, ValidIn}
 use Rattle.scan.specs.Rows.{blank, flat}
 

@@ -6,12 +6,12 @@ use Prim.Native.Nat.{ℕ}
 use lib.ListN.{replicate}
 use Rattle.lists.specs.Put.{put}
 use Rattle.model.specs.Box.{─, │, ┌, ┐, └, ┘, ░}
-use Rattle.white_space.specs.Lines.{lines, texts, after, last_of}
-use Rattle.white_space.specs.Trim.{trim_start, trim_end, trim}
-use Rattle.utf8.specs.Utf8.{more, by, decode, read, codes}
-use Rattle.white_space.specs.White.{among}
-use Rattle.sheet_rows.specs.Rows.{rows_at, up_to, collect, widest}
-use Rattle.sheet_rows.specs.Sheet.{lines_through, lines_taken, behind, rest_of}
+use Rattle.characters.specs.white_space.Lines.{lines, texts, after, last_of}
+use Rattle.characters.specs.white_space.Trim.{trim_start, trim_end, trim}
+use Rattle.characters.specs.utf8.Utf8.{more, by, decode, read, codes}
+use Rattle.characters.specs.white_space.White.{among}
+use Rattle.scan.specs.sheet_rows.Rows.{rows_at, up_to, collect, widest}
+use Rattle.scan.specs.sheet_rows.Sheet.{lines_through, lines_taken, behind, rest_of}
 use Rattle.scan.specs.Canvas.{size_of, blanks_in}
 use Rattle.scan.specs.Rows.{flat}
 

@@ -9,11 +9,11 @@ use Rattle.lists.specs.Put.{put}
 use Rattle.lists.proofs.Parts.{take_next, drop-next}
 use Rattle.lists.proofs.PutLaws.{put_nil, put-put, put_snoc}
 use Rattle.model.specs.Box.{░}
-use Rattle.white_space.specs.Lines.{codes_at}
-use Rattle.utf8.specs.Utf8.{codes, decode, StandsAt}
-use Rattle.utf8.specs.declared.Decoded.{Decoded}
-use Rattle.utf8.specs.declared.Decoded.TheVariants.{Char, IllFormed, End}
-use Rattle.utf8.proofs.Utf8Laws.{codes_char, codes_bad, codes-none, decode-fits}
+use Rattle.characters.specs.white_space.Lines.{codes_at}
+use Rattle.characters.specs.utf8.Utf8.{codes, decode, StandsAt}
+use Rattle.characters.specs.declared.utf8.Decoded.{Decoded}
+use Rattle.characters.specs.declared.utf8.Decoded.TheVariants.{Char, IllFormed, End}
+use Rattle.characters.proofs.utf8.Utf8Laws.{codes_char, codes_bad, codes-none, decode-fits}
 use Rattle.scan.specs.Rows.{fill, blank}
 use Rattle.scan.proofs.TextLayer.{blank-length}
 

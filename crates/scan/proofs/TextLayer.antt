@@ -13,8 +13,8 @@ use Rattle.lists.proofs.PictureLaws.{picture_is, within_in, within-out, place-fi
 use Rattle.lists.proofs.PutLaws.{put_front}
 use Rattle.lists.proofs.Tests.{by_flag, true_false}
 use Rattle.model.specs.Box.{┌, ░}
-use Rattle.white_space.specs.Lines.{lines, texts}
-use Rattle.sheet_rows.specs.Rows.{begins, up_to, collect, rows, widest}
+use Rattle.characters.specs.white_space.Lines.{lines, texts}
+use Rattle.scan.specs.sheet_rows.Rows.{begins, up_to, collect, rows, widest}
 use Rattle.scan.specs.Canvas.{fits, text_in, blanks_in}
 use Rattle.scan.specs.Rows.{fill, blank, flat}
 

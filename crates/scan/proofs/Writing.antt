@@ -8,7 +8,7 @@ use lib.ListN.{length, take, drop, length-take}
 use Rattle.lists.specs.Put.{put}
 use Rattle.lists.proofs.Parts.{take_next, drop-next, room_next, take_done}
 use Rattle.lists.proofs.PutLaws.{put_nil, put_next}
-use Rattle.sheet_rows.specs.Rows.{widest}
+use Rattle.scan.specs.sheet_rows.Rows.{widest}
 use Rattle.scan.specs.Rows.{fill, flat}
 use Rattle.scan.proofs.TextLayer.{fill-length, map-length}
 

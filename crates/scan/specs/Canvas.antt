@@ -5,10 +5,10 @@ use Rattle.lists.specs.Put.{put}
 use Rattle.model.specs.Limits.{canvas_rows, canvas_columns}
 use Rattle.model.specs.Refusals.{Reading}
 use Rattle.model.specs.declared.Refusal.TheVariants.{CanvasTooLarge}
-use Rattle.utf8.specs.Utf8.{codes, SameCheck}
-use Rattle.sheet_rows.specs.Rows.{widest}
-use Rattle.sheet_rows.specs.Sheet.{rest_of}
-use Rattle.sheet_rows.specs.declared.Extent.{Extent}
+use Rattle.characters.specs.utf8.Utf8.{codes, SameCheck}
+use Rattle.scan.specs.sheet_rows.Rows.{widest}
+use Rattle.scan.specs.sheet_rows.Sheet.{rest_of}
+use Rattle.scan.specs.declared.sheet_rows.Extent.{Extent}
 use Rattle.scan.specs.Rows.{blank, flat}
 
 -- the size of a canvas

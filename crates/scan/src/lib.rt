@@ -2,17 +2,21 @@
 // Places are indices into the whole text, as in `utf8`.
 #![tactic(auto)]
 
+pub mod line_checks;
+pub mod sheet_rows;
+pub mod text_lines;
+
 ghost use Rattle.std.specs.Prelude.{◌≡◌, map, ◌+◌, ◌*◌, ◌≤◌, length, replicate};
 ghost use Rattle.lists.specs.Put.{put};
 ghost use Rattle.model.specs.Limits.{canvas_size};
-ghost use Rattle.white_space.specs.Lines.{codes_at};
-ghost use Rattle.sheet_rows.specs.Found.{rows_in, Counted};
-ghost use Rattle.sheet_rows.specs.Rows.{rows_at, widest};
+ghost use Rattle.characters.specs.white_space.Lines.{codes_at};
+ghost use Rattle.scan.specs.sheet_rows.Found.{rows_in, Counted};
+ghost use Rattle.scan.specs.sheet_rows.Rows.{rows_at, widest};
 ghost use Rattle.scan.specs.Rows.{fill, blank, flat};
 ghost use Rattle.scan.specs.Canvas.{size_of, text_in, blanks_in, scanned_in, Ended, ValidIn};
 
+use crate::sheet_rows::{Extent, Row};
 use model::{Refusal, box_drawing, limits};
-use sheet_rows::{Extent, Row};
 
 // The code points of a row, into out from `base` on.
 fn put_codes(s: &[u8], row: Row, out: &mut [u32], base: usize)
@@ -21,7 +25,7 @@ fn put_codes(s: &[u8], row: Row, out: &mut [u32], base: usize)
 {
     let mut p = row.from;
     for i in 0..row.count {
-        let d = code_points::known(s, p);
+        let d = characters::code_points::known(s, p);
         out[base + i] = d.code;
         p += d.bytes;
     }
@@ -68,8 +72,8 @@ pub fn scan(s: &[u8], from: usize, text: &mut [u32], body: &mut [u32]) -> Result
     ensures layer { text.new ≡ text_in (rows_at s.now from) text.old }
     ensures body { body.new ≡ blanks_in (rows_at s.now from) body.old }
 {
-    let start = sheet_rows::sheet_start(s, from);
-    let m = sheet_rows::measure(s, start);
+    let start = crate::sheet_rows::sheet_start(s, from);
+    let m = crate::sheet_rows::measure(s, start);
     let rows = m.extent.rows;
     let columns = m.extent.columns;
     if limits::CANVAS_ROWS < rows {

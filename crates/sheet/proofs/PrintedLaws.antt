@@ -15,7 +15,7 @@ use Rattle.print.specs.Decimal.{Written}
 use Rattle.lists.proofs.Tests.{by_flag}
 use Rattle.model.specs.Limits.{text_bytes}
 use Rattle.policies.specs.DrawnPolicy.{walked_policy}
-use Rattle.outcome_lines.specs.PolicyLines.{record_bytes, policy_lines}
+use Rattle.reports.specs.outcome_lines.PolicyLines.{record_bytes, policy_lines}
 use Rattle.sheet.specs.Printed.{too_long_line, printed_for}
 
 pub printed_long : (s : List ℕ) → text_bytes < length s → too_long_line ≡ printed_for s

@@ -4,7 +4,7 @@ use Rattle.lists.specs.Choose.{choose}
 use Rattle.model.specs.Limits.{text_bytes}
 use Rattle.policies.specs.DrawnPolicy.{walked_policy}
 use Rattle.print.specs.Lines.{line_feed}
-use Rattle.outcome_lines.specs.PolicyLines.{record_bytes, policy_lines}
+use Rattle.reports.specs.outcome_lines.PolicyLines.{record_bytes, policy_lines}
 
 -- "too long" and a line feed
 abbrev pub too_long_line : List ℕ

@@ -5,12 +5,12 @@ ghost use Rattle.std.specs.Prelude.{◌+◌, ◌≤◌, OnOk, IfSome};
 ghost use Rattle.std.specs.Io.KnownBytes.{Appends};
 ghost use Rattle.arrayvec.specs.ArrayVec.{array_vec_len};
 ghost use Rattle.print.specs.Decimal.{Written};
-ghost use Rattle.outcome_lines.specs.PolicyLines.{report_bytes};
+ghost use Rattle.reports.specs.outcome_lines.PolicyLines.{report_bytes};
 ghost use Rattle.sheet.specs.Printed.{printed_for};
 
 use arrayvec::ArrayVec;
 use model::limits::TEXT_BYTES;
-use outcome_lines::REPORT_BYTES;
+use reports::outcome_lines::REPORT_BYTES;
 use std::alloc::Global;
 use std::io::{self, Read, Write};
 

@@ -13,10 +13,10 @@ use Rattle.model.specs.declared.Refusal.{Refusal}
 use Rattle.cells.specs.Held.{Held}
 use Rattle.cells.specs.Plane.{Plane, plane_in, PlaneFits}
 use Rattle.cells.proofs.AmongLaws.{Among, among-regions}
-use Rattle.outline.specs.declared.Outline.{Outline}
-use Rattle.rects.specs.Rects.{rect_at, rects_of}
-use Rattle.step.specs.PlaneStep.{plane_of}
-use Rattle.step.proofs.RegionsAmong.{plane-among}
+use Rattle.frames.specs.declared.outline.Outline.{Outline}
+use Rattle.cells.specs.rects.Rects.{rect_at, rects_of}
+use Rattle.text_planes.specs.step.PlaneStep.{plane_of}
+use Rattle.text_planes.proofs.step.RegionsAmong.{plane-among}
 use Rattle.walks.specs.Frame.{frame_of}
 use Rattle.walks.specs.Kinds as kind
 use Rattle.text_planes.specs.DrawnPlane.{text_plane_by, text_plane_of}

@@ -17,8 +17,8 @@ use Rattle.lists.proofs.PictureLaws.{within_in}
 use Rattle.lists.proofs.Tests.{by_flag, both, true_false}
 use Rattle.model.specs.Limits.{region_count}
 use Rattle.model.specs.declared.Rect.{Rect}
-use Rattle.thin_layer.specs.Thin.{thin_of, thin_picture}
-use Rattle.regions.specs.Regions.{is_corner, corners_of, add_region, regions_by, regions_of}
+use Rattle.canvas.specs.thin_layer.Thin.{thin_of, thin_picture}
+use Rattle.frames.specs.regions.Regions.{is_corner, corners_of, add_region, regions_by, regions_of}
 use Rattle.walks.specs.Frame.{Frame, Starts, frame_of}
 use Rattle.walks.specs.Kinds.{thin, name}
 use Rattle.walks.proofs.FrameLaws.{accept, accepted, thin-sound}

@@ -6,8 +6,8 @@ use Prim.Native.Nat.{ℕ}
 use Rattle.lists.specs.Picture.{Picture}
 use Rattle.model.specs.declared.Rect.{Rect}
 use Rattle.model.specs.declared.Refusal.{Refusal}
-use Rattle.regions.specs.Regions.{regions_of}
-use Rattle.texts.specs.RegionText.{texts_of}
+use Rattle.frames.specs.regions.Regions.{regions_of}
+use Rattle.text_planes.specs.texts.RegionText.{texts_of}
 use Rattle.text_planes.specs.RegionTexts.{region_texts_by, region_texts_of}
 
 module _ (p q : Picture) (w h : ℕ) where

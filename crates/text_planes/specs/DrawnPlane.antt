@@ -7,9 +7,9 @@ use Rattle.model.specs.Refusals.{Reading}
 use Rattle.cells.specs.Held.{Held}
 use Rattle.cells.specs.Plane.{TextPlane, plane_in}
 use Rattle.cells.specs.Spans.{texts_in}
-use Rattle.outline.specs.declared.Outline.{Outline}
-use Rattle.regions.specs.Slices.{SmallSizes}
-use Rattle.step.specs.PlaneStep.{plane_by}
+use Rattle.frames.specs.declared.outline.Outline.{Outline}
+use Rattle.frames.specs.regions.Slices.{SmallSizes}
+use Rattle.text_planes.specs.step.PlaneStep.{plane_by}
 use Rattle.walks.specs.Frame.{FrameFinder, frame_of}
 use Rattle.walks.specs.Kinds as kind
 use Rattle.text_planes.specs.RegionTexts.{region_texts_by}

@@ -6,14 +6,14 @@ use Rattle.model.specs.Limits.{region_count, text_bytes}
 use Rattle.model.specs.Refusals.{Reading}
 use Rattle.model.specs.declared.Rect.{Rect}
 use Rattle.model.specs.declared.layer.Layer.{Layer}
-use Rattle.rects.specs.Rects.{rects_of}
-use Rattle.regions.specs.Slices.{SmallSizes}
-use Rattle.regions.specs.Regions.{regions_by}
-use Rattle.texts.specs.RegionText.{texts_of}
+use Rattle.cells.specs.rects.Rects.{rects_of}
+use Rattle.frames.specs.regions.Slices.{SmallSizes}
+use Rattle.frames.specs.regions.Regions.{regions_by}
+use Rattle.text_planes.specs.texts.RegionText.{texts_of}
 use Rattle.walks.specs.Frame.{FrameFinder, frame_of}
 use Rattle.walks.specs.Kinds.{thin}
 use Rattle.cells.specs.Spans.{texts_in}
-use Rattle.texts.specs.Spans.{SpansIn}
+use Rattle.text_planes.specs.texts.Spans.{SpansIn}
 use Rattle.text_planes.specs.declared.RegionsRead.{RegionsRead}
 
 pub record Regions : Type 0 where

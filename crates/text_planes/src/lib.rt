@@ -2,16 +2,21 @@
 // The work slices stand side by side for the reason at `canvas::draw_sheet`.
 #![tactic(auto)]
 
+pub mod plane_cells;
+pub mod plane_rows;
+pub mod step;
+pub mod texts;
+
 ghost use Rattle.std.specs.Prelude.{◌≡◌};
 ghost use Rattle.lists.specs.Picture.{canvas};
 ghost use Rattle.model.specs.Layers.{picture_of};
 ghost use Rattle.text_planes.specs.DrawnPlane.{text_plane_of, plane_read, PlaneHeld, PlaneRoom};
 ghost use Rattle.text_planes.specs.RegionTexts.{region_texts_of, regions_in, UsedIn, RegionRoom};
 
+use cells::rects::list::Rects;
+use frames::outline::Outline;
 use model::Refusal;
 use model::layer::Layer;
-use outline::Outline;
-use rects::list::Rects;
 
 // So many regions, whose texts have so many bytes. No code reads `used`: by it the contract says where the texts end.
 #[derive(Clone, Copy)]
@@ -32,12 +37,12 @@ pub fn read_regions(
     ensures answer { regions_in result rects.new bytes.new spans.new ≡ region_texts_of (picture_of text.entry) (picture_of thins.entry) thins.entry.width thins.entry.height }
     ensures used { UsedIn result bytes.new spans.new }
 {
-    let count = regions::regions(thins, rects)?;
+    let count = frames::regions::regions(thins, rects)?;
     let found = Rects {
         numbers: rects,
         count,
     };
-    let used = texts::gather(text, found, bytes, spans)?;
+    let used = crate::texts::gather(text, found, bytes, spans)?;
     Ok(RegionsRead { count, used })
 }
 
@@ -79,6 +84,6 @@ pub fn read_plane(
         numbers: bodies,
         count,
     };
-    let rows = step::make_plane(o, grid, rects, thins, text)?;
+    let rows = crate::step::make_plane(o, grid, rects, thins, text)?;
     Ok(PlaneRead { rows, count })
 }

@@ -10,12 +10,12 @@ use lib.ListN.{length}
 use Rattle.lists.specs.Choose.{choose}
 use Rattle.lists.proofs.AllLaws.{All}
 use Rattle.lists.proofs.Tests.{by_flag}
-use Rattle.white_space.specs.Lines.{join}
-use Rattle.white_space.specs.Trim.{trim_start_utf8, trim_utf8}
-use Rattle.white_space.proofs.TrimLength.{trim-length}
-use Rattle.emphasis.specs.Commas.{comma, parts}
-use Rattle.emphasis.specs.Emphasis.{Choice, plain, marked, marks, placed, or_else, starts_with, ends_with, emphasised, first_marked, choice_of}
-use Rattle.emphasis.proofs.Stripping.{strip-length}
+use Rattle.characters.specs.white_space.Lines.{join}
+use Rattle.characters.specs.white_space.Trim.{trim_start_utf8, trim_utf8}
+use Rattle.characters.proofs.white_space.TrimLength.{trim-length}
+use Rattle.values.specs.emphasis.Commas.{comma, parts}
+use Rattle.values.specs.emphasis.Emphasis.{Choice, plain, marked, marks, placed, or_else, starts_with, ends_with, emphasised, first_marked, choice_of}
+use Rattle.values.proofs.emphasis.Stripping.{strip-length}
 use Rattle.values.specs.Values.{values_by, values_of}
 
 -- texts of at most m bytes

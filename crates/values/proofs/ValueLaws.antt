@@ -5,13 +5,13 @@ use mathlib.Core.List.{List}
 use Prim.Native.Nat.{ℕ, ◌≤◌, ◌<◌}
 use native.Mathlib.Omega.{arith}
 use lib.ListN.{length}
-use Rattle.emphasis.specs.Commas.{parts}
-use Rattle.emphasis.specs.Emphasis.{Choice, plain, marked, choice_of}
-use Rattle.emphasis.specs.Found.{Emphasised}
-use Rattle.emphasis.specs.declared.Found.{Found}
-use Rattle.emphasis.proofs.Finding.{between, Sized, first-sized}
-use Rattle.rewriting.specs.Replaced.{replace_all}
-use Rattle.rewriting.proofs.Replacing.{replace_length}
+use Rattle.values.specs.emphasis.Commas.{parts}
+use Rattle.values.specs.emphasis.Emphasis.{Choice, plain, marked, choice_of}
+use Rattle.values.specs.emphasis.Found.{Emphasised}
+use Rattle.values.specs.declared.emphasis.Found.{Found}
+use Rattle.values.proofs.emphasis.Finding.{between, Sized, first-sized}
+use Rattle.values.specs.rewriting.Replaced.{replace_all}
+use Rattle.values.proofs.rewriting.Replacing.{replace_length}
 use Rattle.values.specs.Values.{values_by, values_of, MeasuredOf}
 
 -- no part is in emphasis

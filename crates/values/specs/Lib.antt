@@ -1,1 +1,5 @@
 pub mod Values
+pub mod emphasis
+pub mod search
+pub mod rewriting
+pub mod utils

@@ -1,8 +1,8 @@
 -- The values of a text, allowed values and default, and what is measured of them: the value split of document 01,
 -- `get_allowed_and_default_output_values` of the Rust.
 use Rattle.std.specs.Prelude.{List, ◌≡◌, ℕ, ◌-◌, ◌≤◌, length, take, drop, Option, None, Some}
-use Rattle.emphasis.specs.Emphasis.{Choice, plain, marked, choice_of}
-use Rattle.rewriting.specs.Replaced.{replace_all}
+use Rattle.values.specs.emphasis.Emphasis.{Choice, plain, marked, choice_of}
+use Rattle.values.specs.rewriting.Replaced.{replace_all}
 use Rattle.values.specs.declared.Rewritten.{Rewritten}
 
 -- allowed values, and a default that may be absent

@@ -2,11 +2,16 @@
 // A slice with a place or a count: it is lent by the caller, in C too, as `record` says.
 #![tactic(auto)]
 
+pub mod emphasis;
+pub mod rewriting;
+pub mod search;
+pub mod utils;
+
 ghost use Rattle.std.specs.Prelude.{◌≡◌, ◌+◌, ◌≤◌, length};
 ghost use Rattle.lists.specs.Put.{put};
 ghost use Rattle.values.specs.Values.{values_of, MeasuredOf};
 
-use search::Pattern;
+use crate::search::Pattern;
 
 // Rewritten values: so many bytes are the allowed values, and the default stands in the text from one place up to another.
 #[derive(Clone, Copy)]
@@ -20,14 +25,14 @@ pub struct Rewritten {
 pub fn measure_values(text: &[u8]) -> Option<Rewritten>
     ensures { MeasuredOf result text.now }
 {
-    let f = emphasis::first_marked(text)?;
+    let f = crate::emphasis::first_marked(text)?;
     let part = &text[f.from..f.to];
-    let periods = search::periods_of(part);
+    let periods = crate::search::periods_of(part);
     let pattern = Pattern {
         text: part,
         periods: periods.as_slice(),
     };
-    let bytes = rewriting::measure(text, pattern, &text[f.a..f.b]);
+    let bytes = crate::rewriting::measure(text, pattern, &text[f.a..f.b]);
     Some(Rewritten {
         bytes,
         from: f.a,
@@ -41,14 +46,14 @@ pub fn put_values(text: &[u8], out: &mut [u8], at: usize) -> usize
     ensures value { result ≡ at + length (values_of text.now).allowed }
     ensures out_after { out.new ≡ put out.old at (values_of text.now).allowed }
 {
-    if let Some(f) = emphasis::first_marked(text) {
+    if let Some(f) = crate::emphasis::first_marked(text) {
         let part = &text[f.from..f.to];
-        let periods = search::periods_of(part);
+        let periods = crate::search::periods_of(part);
         let pattern = Pattern {
             text: part,
             periods: periods.as_slice(),
         };
-        return rewriting::rewrite(text, pattern, &text[f.a..f.b], out, at);
+        return crate::rewriting::rewrite(text, pattern, &text[f.a..f.b], out, at);
     }
     lists::put_bytes(out, at, text);
     at + text.len()

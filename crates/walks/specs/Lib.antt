@@ -5,3 +5,5 @@ pub mod Line
 pub mod Sides
 pub mod Sets
 pub mod Spots
+pub mod along
+pub mod cursors

@@ -1,6 +1,8 @@
 // Walks along the rows and columns of a layer.
 #![tactic(auto)]
 
+pub mod along;
+pub mod cursors;
 pub mod spot;
 
 ghost use Rattle.std.specs.Prelude.{◌≡◌, List, ℕ, length};

@@ -1,7 +1,7 @@
 -- `answers::put_split` meets its contract.
 use Rattle.std.specs.Prelude.{Ok}
 use mathlib.Core.Path.{ap, sym, ◌∙◌}
-use Rattle.utils.specs.Split.{answered}
+use Rattle.values.specs.utils.Split.{answered}
 use Rattle.answers.specs.SplitLines.{printed}
 use Rattle.print.proofs.WrittenLaws.{written_as, written_within}
 use Rattle.answers.proofs.SplitLaws.{places, printed-values, parts_most}

@@ -4,7 +4,7 @@ use mathlib.Core.List.{[], ◌∷◌}
 use mathlib.Core.Path.{sym, ◌∙◌}
 use Rattle.policies.specs.DrawnPolicy.{walked_policy}
 use Rattle.builder.specs.SheetEnd.{sheet_sizes}
-use Rattle.ends.proofs.EndLaws.{end_refused}
+use Rattle.builder.proofs.ends.EndLaws.{end_refused}
 use Rattle.builder.proofs.read_sheet.Goals as goal
 
 pub sheet_cleared-requires : goal.sheet_cleared-requires

@@ -4,7 +4,7 @@ use mathlib.Core.Path.{◌∙◌}
 use Rattle.policies.specs.DrawnPolicy.{walked_policy}
 use Rattle.builder.specs.SheetEnd.{sheet_sizes}
 use Rattle.lists.proofs.Filling.{filled-zeros}
-use Rattle.ends.proofs.EndLaws.{Cleared, none, one, cleared_all, zeros-same, end_cleared}
+use Rattle.builder.proofs.ends.EndLaws.{Cleared, none, one, cleared_all, zeros-same, end_cleared}
 use Rattle.builder.proofs.RoomLaws.{sheet-room}
 use Rattle.builder.proofs.sheet_cleared.Goals as goal
 use Rattle.builder.proofs.sheet_cleared.Goals.{After-slice_known-20-1}

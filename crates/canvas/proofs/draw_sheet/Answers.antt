@@ -7,10 +7,10 @@ use native.Mathlib.Omega.{arith}
 use Rattle.lists.specs.Picture.{canvas}
 use Rattle.model.specs.declared.Refusal.{Refusal}
 use Rattle.model.specs.declared.Refusal.TheVariants.{InvalidUtf8}
-use Rattle.outline.specs.Outline.{outline_of}
+use Rattle.frames.specs.outline.Outline.{outline_of}
 use Rattle.scan.specs.Canvas.{scanned_in, size_of}
-use Rattle.sheet_rows.specs.Rows.{rows_at}
-use Rattle.utf8.specs.Utf8.{checked}
+use Rattle.scan.specs.sheet_rows.Rows.{rows_at}
+use Rattle.characters.specs.utf8.Utf8.{checked}
 use Rattle.canvas.proofs.DrawingLaws.{ill_formed, well_formed_lem, scan_refused, refused-behind, canvas-fits, outline_refused, outlined, body_in, shown}
 use Rattle.canvas.proofs.draw_sheet.Goals as goal
 use Rattle.canvas.proofs.draw_sheet.Goals.{After-validate_lines, In_ok-map_err, In-Ok, In_ok-outline}

@@ -1,8 +1,8 @@
 -- `canvas::make_layers` meets its contract.
 use mathlib.Core.Path.{ap, ◌∙◌}
 use Rattle.lists.specs.Picture.{Picture, canvas}
-use Rattle.body_layer.specs.Body.{body_picture}
-use Rattle.grid_layer.specs.Grid.{grid_picture}
+use Rattle.canvas.specs.body_layer.Body.{body_picture}
+use Rattle.canvas.specs.grid_layer.Grid.{grid_picture}
 use Rattle.canvas.proofs.make_layers.Goals as goal
 
 pub returns : goal.returns

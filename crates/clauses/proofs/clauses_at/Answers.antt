@@ -2,7 +2,7 @@
 use mathlib.Core.Path.{sym}
 use native.Mathlib.Omega.{arith}
 use Rattle.std.proofs.lemmas.Result.{err_from_is_err_and}
-use Rattle.allowed.proofs.AllowedLaws.{some-rows}
+use Rattle.clauses.proofs.allowed.AllowedLaws.{some-rows}
 use Rattle.clauses.proofs.ShapeLaws.{at-allowed, at-inputs, at_layout, at-outputs, at-notes, at_shape}
 use Rattle.clauses.proofs.clauses_at.Goals as goal
 

@@ -1,7 +1,7 @@
 -- `clauses::pass_inputs` meets its contract.
 use mathlib.Core.Path.{◌∙◌}
 use Rattle.std.proofs.lemmas.Result.{err_from_is_err_and}
-use Rattle.layouts.proofs.LayoutLaws.{read_if, read_not}
+use Rattle.clauses.proofs.layouts.LayoutLaws.{read_if, read_not}
 use Rattle.clauses.proofs.ShapeLaws.{inputs_stop, inputs-values, inputs-rows}
 use Rattle.clauses.proofs.pass_inputs.Goals as goal
 use Rattle.clauses.proofs.pass_inputs.Goals.{then-values+in_ok-pass_row-2, else-values}

@@ -1,7 +1,7 @@
 -- `clauses::width` meets its contract.
 use mathlib.Core.Path.{sym, ◌∙◌}
 use native.Mathlib.Omega.{arith}
-use Rattle.cell_tests.proofs.CellLaws.{width_in, width-out}
+use Rattle.clauses.proofs.cell_tests.CellLaws.{width_in, width-out}
 use Rattle.clauses.proofs.width.Goals as goal
 
 pub returns-then-plane-eq0 : goal.returns-then-plane-eq0

@@ -5,7 +5,7 @@ use mathlib.Core.Path.{refl, sym, ◌∙◌}
 use native.Mathlib.Omega.{arith}
 use Rattle.model.specs.Layers.{picture_of}
 use Rattle.walks.specs.declared.Direction.TheVariants.{Right, Down, Left}
-use Rattle.cursors.proofs.CursorLaws.{Moves}
+use Rattle.walks.proofs.cursors.CursorLaws.{Moves}
 use Rattle.frames.proofs.FourWalks.{around, in_right, in_down, in_left}
 use Rattle.frames.proofs.frame.Goals as goal
 use Rattle.frames.proofs.frame.Goals.{In_ok-search, In_ok-search-2, In_ok-search-3}

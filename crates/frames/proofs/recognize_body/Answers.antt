@@ -7,8 +7,8 @@ use native.Mathlib.Omega.{arith}
 use Rattle.walks.specs.Spots.{from_spot}
 use Rattle.walks.proofs.WalkLaws.{found_bound}
 use Rattle.walks.specs.declared.Direction.TheVariants.{Right, Down, Left, Up}
-use Rattle.along.specs.Characters.{along_of}
-use Rattle.along.specs.declared.Lines.TheVariants.{Body}
+use Rattle.walks.specs.along.Characters.{along_of}
+use Rattle.walks.specs.declared.along.Lines.TheVariants.{Body}
 use Rattle.frames.specs.Body.{body_of}
 use Rattle.frames.proofs.recognize_body.Goals as goal
 use Rattle.frames.proofs.recognize_body.Goals.{In_ok-up, In_ok-down, In_ok-left, In_ok-right}

@@ -1,5 +1,5 @@
 -- `plane::lent_sheet` meets its contract.
-use Rattle.lent.specs.Lent.{lists_of}
+use Rattle.plane.specs.lent.Lent.{lists_of}
 use Rattle.std.proofs.lemmas.Result.{err_from_is_err_and}
 use lib.ListN.{length}
 use Rattle.cells.specs.Plane.{TextPlane, plane_in}

@@ -2,8 +2,8 @@
 use Rattle.policies.specs.DrawnPolicy.{walked_policy}
 use Rattle.print.proofs.WrittenLaws.{written_as}
 use Rattle.builder.specs.SheetEnd.{sheet_sizes}
-use Rattle.outcome_lines.specs.PolicyLines.{record_bytes}
-use Rattle.outcome_lines.proofs.OutcomeLaws.{Reported, drawn_printable, end_reported}
+use Rattle.reports.specs.outcome_lines.PolicyLines.{record_bytes}
+use Rattle.reports.proofs.outcome_lines.OutcomeLaws.{Reported, drawn_printable, end_reported}
 use native.Mathlib.Omega.{arith}
 use borrow.Author.Rules.{rules}
 use Rattle.reports.proofs.put_sheet.Goals as goal

@@ -1,5 +1,5 @@
 -- `scan::put_row` meets its contract.
-use Rattle.white_space.specs.Lines.{codes_at}
+use Rattle.characters.specs.white_space.Lines.{codes_at}
 use Rattle.scan.proofs.RowPutting.{row_written, blanks_written}
 use Rattle.scan.proofs.put_row.Goals as goal
 

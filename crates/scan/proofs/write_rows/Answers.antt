@@ -5,7 +5,7 @@ use Prim.Native.Nat.{◌+◌}
 use native.Mathlib.Omega.{arith}
 use lib.ListN.{length, drop}
 use Rattle.lists.proofs.RunLaws.{length_run, drop-build, drop_build_end}
-use Rattle.sheet_rows.specs.Found.{row_in, rows_in}
+use Rattle.scan.specs.sheet_rows.Found.{row_in, rows_in}
 use Rattle.scan.specs.Rows.{blank}
 use Rattle.scan.proofs.TextLayer.{blank-length}
 use Rattle.scan.proofs.Writing.{text-layer, writing_start, writing_more, writing_end, writing_room}

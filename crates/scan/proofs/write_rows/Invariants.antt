@@ -1,5 +1,5 @@
 use lib.ListN.{length}
-use Rattle.sheet_rows.specs.Found.{rows_in}
+use Rattle.scan.specs.sheet_rows.Found.{rows_in}
 use Rattle.scan.specs.Rows.{blank}
 use Rattle.scan.proofs.Writing.{Writing}
 use Rattle.scan.proofs.write_rows.Given as goal

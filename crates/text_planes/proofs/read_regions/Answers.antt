@@ -6,9 +6,9 @@ use Prim.Native.Nat.{◌≤◌}
 use native.Mathlib.Omega.{arith}
 use Rattle.model.specs.Layers.{picture_of}
 use Rattle.model.specs.Limits.{region_count}
-use Rattle.regions.specs.Slices.{regions_in}
-use Rattle.regions.specs.Regions.{regions_of}
-use Rattle.regions.proofs.InsideLaws.{regions-inside, regions-few}
+use Rattle.frames.specs.regions.Slices.{regions_in}
+use Rattle.frames.specs.regions.Regions.{regions_of}
+use Rattle.frames.proofs.regions.InsideLaws.{regions-inside, regions-few}
 use Rattle.text_planes.proofs.RegionTextLaws.{not_counted, not_gathered, gathered}
 use Rattle.text_planes.proofs.read_regions.Goals as goal
 use Rattle.text_planes.proofs.read_regions.Goals.{In_ok-count}

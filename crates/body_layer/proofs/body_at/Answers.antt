@@ -1,5 +1,0 @@
--- `body_layer::body_at` meets its contract.
-use Rattle.body_layer.proofs.body_at.Goals as goal
-
-pub returns : goal.returns
-returns c = record { bodies_after = rw c.body-c.ensures; grid_after = rw c.body-c.ensures }

@@ -1,0 +1,6 @@
+-- `characters::white_space::trim_utf8_part` meets its contract. A part of a part is a part.
+use Rattle.characters.proofs.white_space.PartLaws.{part_in}
+use Rattle.characters.proofs.white_space.trim_utf8_part.Goals as goal
+
+pub returns : goal.returns
+returns c = rw (c.behind.ensures.0, c.behind.ensures.1) (part_in c.requires c.trim_utf8.ensures)

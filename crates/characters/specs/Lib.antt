@@ -1,0 +1,2 @@
+pub mod utf8
+pub mod white_space

@@ -1,8 +1,0 @@
--- The numbers of an end.
-use mathlib.Core.Path.{◌≡◌, sym, ap, ◌∙◌}
-use Rattle.ends.specs.Ends.{End}
-use Rattle.numbers.specs.Answers.{answer_of}
-use Rattle.numbers.specs.declared.Answer.{Answer}
-
-pub end_told : (e f : End) (x : Answer) → e ≡ f → x ≡ answer_of f.outcome → (x ≡ answer_of e.outcome) × ((f.works ≡ e.works) × (f.out ≡ e.out))
-end_told e f x q h = (h ∙ ap (λ (g : End). answer_of g.outcome) (sym q), (ap (λ (g : End). g.works) (sym q), ap (λ (g : End). g.out) (sym q)))

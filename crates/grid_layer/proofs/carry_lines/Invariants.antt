@@ -1,7 +1,0 @@
-use Rattle.lists.specs.Line.{placed}
-use Rattle.grid_layer.specs.Passes.{line_carried}
-use Rattle.thin_layer.proofs.Turning.{Turning}
-use Rattle.grid_layer.proofs.carry_lines.Given as goal
-
-abbrev pub invariant-loop-j : goal.invariant-loop-j
-invariant-loop-j l = Turning (λ i. line_carried l.d l.l.off (placed l.l.base l.across l.l.stride i) l.l.count) l.m l.initial.grid l.grid l.j

@@ -1,7 +1,0 @@
-use Prim.Native.Nat.{◌+◌, ◌≤◌}
-use Rattle.cells.proofs.WriterLaws.{RowWritten}
-use Rattle.lent.proofs.KindLaws.{lent_cell}
-use Rattle.lent.proofs.load_row.Given as goal
-
-abbrev pub invariant-loop-i : goal.invariant-loop-i
-invariant-loop-i l = (l.i ≤ l.n) × RowWritten (λ k. lent_cell l.l.kinds.now l.l.regions.now (l.at + k)) l.initial.plane l.plane l.i

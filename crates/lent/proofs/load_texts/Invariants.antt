@@ -1,8 +1,0 @@
-use Prim.Native.Nat.{◌≤◌}
-use lib.ListN.{length}
-use Rattle.cells.proofs.SpanLaws.{SpansFilled}
-use Rattle.lent.proofs.TextLaws.{text_on}
-use Rattle.lent.proofs.load_texts.Given as goal
-
-abbrev pub invariant-loop-k : goal.invariant-loop-k
-invariant-loop-k l = (l.k ≤ length l.l.offsets.now) × SpansFilled (text_on l.l.offsets.now l.l.sizes.now l.l.bytes.now) l.l.bytes.now l.initial.spans l.spans l.k

@@ -1,8 +1,0 @@
-use mathlib.Core.Path.{◌≡◌}
-use Prim.Native.Nat.{◌*◌, ◌^◌, ◌≤◌}
-use lib.ListN.{length}
-use Rattle.lent.proofs.SumLaws.{start_of}
-use Rattle.lent.proofs.total.Given as goal
-
-abbrev pub invariant-loop-m : goal.invariant-loop-m
-invariant-loop-m l = (l.m-index ≤ length l.rows) × (l.n ≡ start_of l.rows l.m-index) × (l.n ≤ l.m-index * 2 ^ 32)

@@ -1,6 +1,0 @@
-use mathlib.Core.Path.{◌≡◌}
-use lib.ListN.{take}
-use Rattle.lent_lists.proofs.widen.Given as goal
-
-abbrev pub invariant-loop-b : goal.invariant-loop-b
-invariant-loop-b g l = l.wide.items ≡ take l.b-index l.list

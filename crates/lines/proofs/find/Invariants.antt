@@ -1,5 +1,0 @@
-use Rattle.lines.proofs.Finding.{Seeking}
-use Rattle.lines.proofs.find.Given as goal
-
-abbrev pub invariant-loop-i : goal.invariant-loop-i
-invariant-loop-i l = Seeking l.s l.at l.m l.i

@@ -1,5 +1,0 @@
-use Rattle.lines.proofs.Reading.{Reading}
-use Rattle.lines.proofs.read_bytes.Given as goal
-
-abbrev pub invariant-loop : goal.invariant-loop
-invariant-loop g l = Reading l.s l.count l.text.items l.at l.counter

@@ -1,5 +1,0 @@
-use Rattle.listing.proofs.LineLaws.{Listing}
-use Rattle.listing.proofs.put_record.Given as goal
-
-abbrev pub invariant-loop-i : goal.invariant-loop-i
-invariant-loop-i g l = Listing l.initial.out.items l.bytes l.out.items l.i

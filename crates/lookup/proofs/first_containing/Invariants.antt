@@ -1,6 +1,0 @@
--- The search has come to rect i.
-use Rattle.lookup.proofs.FirstLaws.{Searching}
-use Rattle.lookup.proofs.first_containing.Given as goal
-
-abbrev pub invariant-loop-i : goal.invariant-loop-i
-invariant-loop-i l = Searching l.frame l.run l.i

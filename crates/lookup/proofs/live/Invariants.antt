@@ -1,8 +1,0 @@
--- The rects before `at` end at or above the row.
-use Prim.Native.Nat.{◌≤◌}
-use lib.ListN.{length}
-use Rattle.lookup.specs.Numbers.{Above}
-use Rattle.lookup.proofs.live.Given as goal
-
-abbrev pub invariant-loop-at : goal.invariant-loop-at
-invariant-loop-at l = (l.from ≤ l.at) × (l.at ≤ length l.run) × Above l.run l.at l.row

@@ -1,5 +1,0 @@
-use Rattle.numerals.proofs.NumberLaws.{Digits}
-use Rattle.numerals.proofs.unsigned_number.Given as goal
-
-abbrev pub invariant-loop-c : goal.invariant-loop-c
-invariant-loop-c l = Digits l.s l.c-index l.a

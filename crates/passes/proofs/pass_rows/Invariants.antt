@@ -1,8 +1,0 @@
-use Prim.Native.Nat.{◌-◌}
-use Rattle.cells.specs.Slices.{plane_of}
-use Rattle.passes.specs.Passes.{fine_row}
-use Rattle.passes.proofs.PassLaws.{Passed}
-use Rattle.passes.proofs.pass_rows.Given as goal
-
-abbrev pub invariant-loop-k : goal.invariant-loop-k
-invariant-loop-k l = Passed (λ j. fine_row (plane_of l.plane) j l.x l.n) l.y (l.plane.rows - l.y) l.k

@@ -1,6 +1,0 @@
-use lib.ListN.{length}
-use Rattle.regions.specs.Corners.{corner_in, Seeking}
-use Rattle.regions.proofs.next_corner.Given as goal
-
-abbrev pub invariant-loop-k : goal.invariant-loop-k
-invariant-loop-k l = Seeking (corner_in l.codes) (length l.codes) l.i l.k

@@ -1,0 +1,1 @@
+pub mod outcome_lines

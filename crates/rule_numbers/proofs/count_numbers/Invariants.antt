@@ -1,6 +1,0 @@
-use Rattle.cells.specs.Slices.{text_of}
-use Rattle.rule_numbers.proofs.CountLaws.{Counts}
-use Rattle.rule_numbers.proofs.count_numbers.Given as goal
-
-abbrev pub invariant-loop-k : goal.invariant-loop-k
-invariant-loop-k l = Counts (text_of l.sheet.texts) l.sheet.plane.cells.now l.line l.n l.from l.k l.m

@@ -1,6 +1,0 @@
-use Rattle.model.specs.Layers.{picture_of}
-use Rattle.sketch.proofs.LayerLaws.{Layering}
-use Rattle.sketch.proofs.put_layer.Given as goal
-
-abbrev pub invariant-loop-y : goal.invariant-loop-y
-invariant-loop-y g l = Layering l.initial.out.items (picture_of l.layer) l.layer.width l.layer.height l.out.items l.y

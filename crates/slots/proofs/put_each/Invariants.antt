@@ -1,8 +1,0 @@
-use Rattle.clauses.specs.Spelled.{join_run}
-use Rattle.slot_runs.proofs.SpeltLaws.{Turning}
-use Rattle.slots.specs.ShapedTexts.{bytes_of}
-use Rattle.slots.proofs.put_each.Given as goal
-
-abbrev pub invariant-loop-i : goal.invariant-loop-i
-invariant-loop-i g l =
-    Turning (bytes_of l.shaped) l.initial.out (join_run g.steps.texts 0) g.steps.size l.n l.out l.i

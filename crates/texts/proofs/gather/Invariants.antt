@@ -1,5 +1,0 @@
-use Rattle.texts.proofs.Gathering.{Gathering}
-use Rattle.texts.proofs.gather.Given as goal
-
-abbrev pub invariant-loop-k : goal.invariant-loop-k
-invariant-loop-k l = Gathering l.text.width l.text.height l.text.codes.now l.rects l.initial.bytes l.initial.spans l.bytes l.spans l.k l.at

@@ -1,5 +1,0 @@
-use Rattle.texts.proofs.PartPutting.{Encoding}
-use Rattle.texts.proofs.put_part.Given as goal
-
-abbrev pub invariant-loop-i : goal.invariant-loop-i
-invariant-loop-i l = Encoding l.part l.initial.bytes l.at l.bytes l.i l.p

@@ -1,6 +1,0 @@
--- `white_space::trim_utf8_part` meets its contract. A part of a part is a part.
-use Rattle.white_space.proofs.PartLaws.{part_in}
-use Rattle.white_space.proofs.trim_utf8_part.Goals as goal
-
-pub returns : goal.returns
-returns c = rw (c.behind.ensures.0, c.behind.ensures.1) (part_in c.requires c.trim_utf8.ensures)

@@ -1,6 +1,0 @@
--- `writer::part_of` meets its contract.
-use native.Mathlib.Nat.{add-sub_cancel_left}
-use Rattle.writer.proofs.part_of.Goals as goal
-
-pub returns : goal.returns
-returns c = simp add-sub_cancel_left
