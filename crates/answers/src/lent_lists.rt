@@ -62,7 +62,7 @@ pub fn lists_in(s: &[u8]) -> Option<Lists<'_>>
 }
 
 // The bytes of a list, as wider numbers.
-pub fn widen<const N: usize>(list: &[u8]) -> ArrayVec<u32, N>
+pub(crate) fn widen<const N: usize>(list: &[u8]) -> ArrayVec<u32, N>
     requires { length list.now ≤ N }
     ensures { result.items ≡ list.now }
 {

@@ -72,7 +72,7 @@ fn put_stated<const N: usize>(out: &mut ArrayVec<u8, N>, s: Stated, upright: &[u
 }
 
 // The upright sheet of a lent plane, or why there is none.
-pub fn put_upright_sheet<const N: usize>(out: &mut ArrayVec<u8, N>, l: Lent)
+pub(crate) fn put_upright_sheet<const N: usize>(out: &mut ArrayVec<u8, N>, l: Lent)
     requires { array_vec_len out.old + upright_bytes ≤ N }
     ensures { Written out.old.items out.new.items (lent_lines (lists_of l.entry)) upright_bytes }
 {

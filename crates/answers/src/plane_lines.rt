@@ -33,7 +33,7 @@ fn put_cells<const N: usize>(out: &mut ArrayVec<u8, N>, plane: Plane, row: usize
 }
 
 // A plane.
-pub fn put_plane<const N: usize>(out: &mut ArrayVec<u8, N>, plane: Plane)
+pub(crate) fn put_plane<const N: usize>(out: &mut ArrayVec<u8, N>, plane: Plane)
     requires { array_vec_len out.old + plane_bytes ≤ N }
     ensures { Written out.old.items out.new.items (plane_lines (plane_of plane.entry)) plane_bytes }
 {
@@ -44,7 +44,7 @@ pub fn put_plane<const N: usize>(out: &mut ArrayVec<u8, N>, plane: Plane)
 }
 
 // The numbers of an upright sheet, which may be any (the enums would ask more of a caller), and its plane.
-pub fn put_upright<const N: usize>(
+pub(crate) fn put_upright<const N: usize>(
     out: &mut ArrayVec<u8, N>,
     orientation: u32,
     policy: u32,

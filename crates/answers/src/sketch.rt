@@ -51,7 +51,7 @@ fn put_layer<const N: usize>(out: &mut ArrayVec<u8, N>, title: &[u8], layer: Lay
 }
 
 // The four layers.
-pub fn put_layers<const N: usize>(
+pub(crate) fn put_layers<const N: usize>(
     out: &mut ArrayVec<u8, N>,
     text: Layer,
     thins: Layer,
@@ -107,7 +107,7 @@ fn put_region<const N: usize>(out: &mut ArrayVec<u8, N>, rects: Rects, texts: Te
 }
 
 // The regions behind their count.
-pub fn put_regions<const N: usize>(out: &mut ArrayVec<u8, N>, rects: Rects, texts: Texts)
+pub(crate) fn put_regions<const N: usize>(out: &mut ArrayVec<u8, N>, rects: Rects, texts: Texts)
     requires { (array_vec_len out.old + region_bytes ≤ N) × Regions rects texts }
     ensures { Written out.old.items out.new.items (counted_lines (rects_in rects.entry) (texts_of texts.entry)) region_bytes }
 {

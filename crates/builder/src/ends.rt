@@ -2,7 +2,7 @@
 ghost use Rattle.std.specs.Prelude.{◌≡◌};
 ghost use Rattle.lists.specs.Zeros.{zeros};
 
-pub fn clear_four(a: &mut [u32], b: &mut [u32], c: &mut [u32], d: &mut [u32])
+pub(crate) fn clear_four(a: &mut [u32], b: &mut [u32], c: &mut [u32], d: &mut [u32])
     ensures { (a.new ≡ zeros a.old) × (b.new ≡ zeros b.old) × (c.new ≡ zeros c.old) × (d.new ≡ zeros d.old) }
 {
     lists::fill(a, 0);

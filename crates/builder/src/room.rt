@@ -6,7 +6,7 @@ use model::Refusal;
 
 // Slice by slice, a length against its constant. No arrays of one size: a caller may have a number of slices that is known only when it runs.
 // The refusal tells the index, so that a `zip` with an `enumerate` is no plainer.
-pub fn work_slices(lens: &[usize], sizes: &[usize]) -> Result<(), Refusal>
+pub(crate) fn work_slices(lens: &[usize], sizes: &[usize]) -> Result<(), Refusal>
     requires { length lens.now ≡ length sizes.now }
     ensures { result ≡ room_from 0 lens.now sizes.now }
 {

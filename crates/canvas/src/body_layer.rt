@@ -96,7 +96,7 @@ fn body_row(
 }
 
 // BODY of THIN, and ░ above it in GRID.
-pub fn make_body(thins: Layer, bodies: &mut [u32], grid: &mut [u32], r: Rect)
+pub(crate) fn make_body(thins: Layer, bodies: &mut [u32], grid: &mut [u32], r: Rect)
     requires sizes { (thins.height * thins.width ≤ length bodies.old) × (thins.height * thins.width ≤ length grid.old) }
     requires body { BodyIn thins.width thins.height r }
     ensures bodies_after { canvas thins.entry.width thins.entry.height bodies.new ≡ body_picture r (picture_of thins.entry) (canvas thins.entry.width thins.entry.height bodies.old) }

@@ -141,7 +141,7 @@ fn copy_layer(src: Layer, dst: &mut [u32])
 }
 
 // GRID of BODY: the lines of the body are carried across it.
-pub fn make_grid(bodies: Layer, grid: &mut [u32], r: Rect)
+pub(crate) fn make_grid(bodies: Layer, grid: &mut [u32], r: Rect)
     requires sizes { bodies.height * bodies.width ≤ length grid.old }
     requires body { BodyIn bodies.width bodies.height r }
     ensures { canvas bodies.entry.width bodies.entry.height grid.new ≡ grid_picture r (picture_of bodies.entry) }

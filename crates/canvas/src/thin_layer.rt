@@ -51,7 +51,7 @@ fn thin(c: [u32; 4]) -> [u32; 4]
 }
 
 // THIN of TEXT. A layer that the pass is not handed is blank in a character. The last character that was looked up is kept, for equal neighbours.
-pub fn make_thin(text: Layer, thins: &mut [u32])
+pub(crate) fn make_thin(text: Layer, thins: &mut [u32])
     requires { text.height * text.width ≤ length thins.old }
     ensures { canvas text.entry.width text.entry.height thins.new ≡ thin_picture text.entry.width text.entry.height (picture_of text.entry) }
 {

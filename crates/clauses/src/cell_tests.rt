@@ -24,7 +24,7 @@ pub fn region_at(plane: Plane, y: usize, x: usize) -> Result<usize, Refusal>
 
 // `joined` is what is asked, a value that the answer is compared with.
 // Whether the cells of rows top and top + 1 in column x are of one region (joined), or of two.
-pub fn column_is(plane: Plane, joined: bool, top: usize, x: usize) -> Result<bool, Refusal>
+pub(crate) fn column_is(plane: Plane, joined: bool, top: usize, x: usize) -> Result<bool, Refusal>
     requires { top < plane_rows }
     ensures { result ≡ column_is joined (plane_of plane.entry) top x }
 {
@@ -37,7 +37,7 @@ pub fn column_is(plane: Plane, joined: bool, top: usize, x: usize) -> Result<boo
 }
 
 // So in each of the n columns from x on.
-pub fn columns_are(
+pub(crate) fn columns_are(
     plane: Plane,
     joined: bool,
     top: usize,

@@ -8,7 +8,7 @@ use cells::plane::Plane;
 use model::Refusal;
 
 // The n cells of row y from column x on.
-pub fn pass_row(plane: Plane, y: usize, x: usize, n: usize) -> Result<(), Refusal>
+pub(crate) fn pass_row(plane: Plane, y: usize, x: usize, n: usize) -> Result<(), Refusal>
     requires { x + n ≤ 128 }
     ensures { result ≡ fine_row (plane_of plane.entry) y x n }
 {
@@ -19,7 +19,7 @@ pub fn pass_row(plane: Plane, y: usize, x: usize, n: usize) -> Result<(), Refusa
 }
 
 // The n cells from column x on of each row from y on, row by row.
-pub fn pass_rows(plane: Plane, y: usize, x: usize, n: usize) -> Result<(), Refusal>
+pub(crate) fn pass_rows(plane: Plane, y: usize, x: usize, n: usize) -> Result<(), Refusal>
     requires { (x + n ≤ 128) × (y ≤ 128) }
     ensures { result ≡ fine_rows (plane_of plane.entry) y x n }
 {

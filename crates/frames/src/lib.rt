@@ -53,7 +53,7 @@ fn frame(spot: Spot, lines: Lines) -> Result<Rect, Refusal>
 }
 
 // The region that starts at a place of THIN.
-pub fn recognize_region(spot: Spot) -> Result<Rect, Refusal>
+pub(crate) fn recognize_region(spot: Spot) -> Result<Rect, Refusal>
     ensures { result ≡ from_spot (frame_of thin) spot.entry }
 {
     frame(spot, Lines::Region)
@@ -67,7 +67,7 @@ pub fn recognize_rectangle(spot: Spot) -> Result<Rect, Refusal>
 }
 
 // The box of the name, which starts in the top left corner of TEXT.
-pub fn recognize_name(layer: Layer) -> Result<Rect, Refusal>
+pub(crate) fn recognize_name(layer: Layer) -> Result<Rect, Refusal>
     requires { Place layer.width layer.height 0 0 }
     ensures { result ≡ frame_of name (picture_of layer.entry) layer.entry.width layer.entry.height 0 0 }
 {
@@ -88,7 +88,7 @@ fn walk_from(d: Direction, spot: Spot, lines: Lines) -> Result<usize, Refusal>
 }
 
 // The body of the table whose main crossing stands at a place: its sides are as far off as four walks come.
-pub fn recognize_body(spot: Spot) -> Result<Rect, Refusal>
+pub(crate) fn recognize_body(spot: Spot) -> Result<Rect, Refusal>
     ensures { result ≡ from_spot body_of spot.entry }
 {
     let up = walk_from(Direction::Up, spot, Lines::Body)?;
@@ -104,14 +104,14 @@ pub fn recognize_body(spot: Spot) -> Result<Rect, Refusal>
 }
 
 // The walk to an annotation crossing on the right of a place.
-pub fn crossing_right(spot: Spot) -> Result<usize, Refusal>
+pub(crate) fn crossing_right(spot: Spot) -> Result<usize, Refusal>
     ensures { result ≡ from_spot (along_of Crossing Right) spot.entry }
 {
     walk_from(Direction::Right, spot, Lines::Crossing)
 }
 
 // The walk to one below.
-pub fn crossing_below(spot: Spot) -> Result<usize, Refusal>
+pub(crate) fn crossing_below(spot: Spot) -> Result<usize, Refusal>
     ensures { result ≡ from_spot (along_of Crossing Down) spot.entry }
 {
     walk_from(Direction::Down, spot, Lines::Crossing)

@@ -35,7 +35,7 @@ fn collect_policy(c: u8) -> Option<HitPolicy>
 }
 
 // The hit policy of a trimmed text.
-pub fn hit_policy(s: &[u8]) -> Option<HitPolicy>
+pub(crate) fn hit_policy(s: &[u8]) -> Option<HitPolicy>
     ensures { result ≡ policy_of s.now }
 {
     if s.len() == 1 {

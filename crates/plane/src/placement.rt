@@ -144,7 +144,7 @@ fn oriented_by(
 }
 
 // The orientation of a plane, with its policy and its rule count.
-pub fn orient(sheet: TextPlane) -> Result<Oriented, Refusal>
+pub(crate) fn orient(sheet: TextPlane) -> Result<Oriented, Refusal>
     ensures { result ≡ oriented_of (text_of sheet.entry.texts) (plane_of sheet.entry.plane) }
 {
     let plane = sheet.plane;

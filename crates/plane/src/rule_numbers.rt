@@ -28,7 +28,7 @@ pub enum Line {
 }
 
 // The cell at place k of a line.
-pub fn slot_at(plane: Plane, line: Line, k: usize) -> Option<Cell>
+pub(crate) fn slot_at(plane: Plane, line: Line, k: usize) -> Option<Cell>
     requires { OnPlane line × (k < plane_rows) }
     ensures { result ≡ slot_of plane.entry.cells.now line k }
 {
@@ -111,7 +111,7 @@ fn numbers_right(sheet: TextPlane) -> Result<RuleNumbersPlacement, Refusal>
 }
 
 // Rule numbers down column 0, or else along the last row.
-pub fn rule_numbers(sheet: TextPlane) -> Result<RuleNumbersPlacement, Refusal>
+pub(crate) fn rule_numbers(sheet: TextPlane) -> Result<RuleNumbersPlacement, Refusal>
     requires { 0 < sheet.plane.rows }
     ensures { result ≡ rule_numbers_of (text_of sheet.entry.texts) (plane_of sheet.entry.plane) }
 {

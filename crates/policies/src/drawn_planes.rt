@@ -14,7 +14,7 @@ pub struct DrawnRows {
 }
 
 // The plane of a drawing, with the texts of its regions.
-pub fn drawn_plane(
+pub(crate) fn drawn_plane(
     s: &[u8],
     text: &mut [u32],
     thins: &mut [u32],

@@ -55,7 +55,7 @@ fn recognize_sheet(sheet: TextPlane, s: Stated, slots: &mut [u32]) -> Result<Slo
 }
 
 // The table of a plane; the name's slot is left to the caller.
-pub fn recognize(
+pub(crate) fn recognize(
     sheet: TextPlane,
     upright: &mut [u32],
     slots: &mut [u32],

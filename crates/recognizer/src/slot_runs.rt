@@ -59,7 +59,7 @@ impl<'a> Slots<'a> {
     }
 
     // A text that is absent.
-    pub fn put_absent(&mut self)
+    pub(crate) fn put_absent(&mut self)
         requires { HasRoom self.old 1 }
         ensures { (bytes : List ℕ) → Appended bytes self.old self.new (None ∷ []) }
     {
@@ -75,7 +75,7 @@ impl<'a> Slots<'a> {
     }
 
     // A text that is a part, and absent when that is empty.
-    pub fn put_optional(&mut self, p: Part)
+    pub(crate) fn put_optional(&mut self, p: Part)
         requires { HasRoom self.old 1 }
         ensures { (bytes : List ℕ) → PartIn p bytes → Appended bytes self.old self.new (present (part_of bytes p) ∷ []) }
     {
@@ -87,7 +87,7 @@ impl<'a> Slots<'a> {
     }
 
     // Two texts that are absent.
-    pub fn put_no_values(&mut self)
+    pub(crate) fn put_no_values(&mut self)
         requires { HasRoom self.old 2 }
         ensures { (bytes : List ℕ) → Appended bytes self.old self.new (None ∷ None ∷ []) }
     {

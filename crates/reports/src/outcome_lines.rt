@@ -14,7 +14,7 @@ pub const REPORT_BYTES: usize = 348685;
 pub const RECORD_BYTES: usize = 61440;
 
 // The lines of the record slice, or of the refusal.
-pub fn put_outcome<const N: usize>(
+pub(crate) fn put_outcome<const N: usize>(
     out: &mut ArrayVec<u8, N>,
     o: Result<usize, Refusal>,
     bytes: &[u8],

@@ -66,7 +66,7 @@ pub struct ReadTo {
 }
 
 // A line is read: the next one starts there.
-pub fn line_end(s: &[u8], from: usize) -> ReadTo
+pub(crate) fn line_end(s: &[u8], from: usize) -> ReadTo
     requires { from ≤ length s.now }
     ensures next { NextFrom s.now from result.at }
     ensures valid { ValidTo s.now from result.at result.valid }

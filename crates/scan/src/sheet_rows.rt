@@ -13,7 +13,7 @@ use model::box_drawing;
 use model::limits::CANVAS_ROWS;
 
 // The first line from `from` on whose text begins with ┌, or the end.
-pub fn sheet_start(s: &[u8], from: usize) -> ReadTo
+pub(crate) fn sheet_start(s: &[u8], from: usize) -> ReadTo
     requires { from ≤ length s.now }
     ensures start { StartAt s.now from result.at }
     ensures valid { ValidTo s.now from result.at result.valid }

@@ -187,7 +187,7 @@ pub struct Line {
     pub rest: Rest,
 }
 
-pub fn line_at(s: &[u8], at: usize) -> Line
+pub(crate) fn line_at(s: &[u8], at: usize) -> Line
     requires { at ≤ length s.now }
     ensures line { LineAt s.now at result.from result.rest.count result.rest.last result.rest.end.at }
     ensures valid { ValidTo s.now at result.rest.end.at result.rest.end.valid }
@@ -222,7 +222,7 @@ pub struct Head {
 }
 
 // What tells whether a sheet begins; of the rest only its end is sought.
-pub fn line_head(s: &[u8], at: usize) -> Head
+pub(crate) fn line_head(s: &[u8], at: usize) -> Head
     requires { at ≤ length s.now }
     ensures head { HeadAt s.now at result.first result.end.at }
     ensures valid { ValidTo s.now at result.end.at result.end.valid }

@@ -11,7 +11,7 @@ use model::limits::{PLANE_CELLS, PLANE_ROWS};
 use model::{Cell, Refusal};
 
 // Whether a crossing stands at a column or row.
-pub fn is_at(c: Option<usize>, x: usize) -> bool
+pub(crate) fn is_at(c: Option<usize>, x: usize) -> bool
     ensures { result ≡ is_at c x }
 {
     c == Some(x)
@@ -39,7 +39,7 @@ fn column_of(is_here: bool, column: usize, last: Option<usize>) -> Option<usize>
 }
 
 // The cell of a frame in column x, of a region, behind the double lines left of it.
-pub fn add_cells(
+pub(crate) fn add_cells(
     o: Outline,
     x: usize,
     region: usize,

@@ -44,7 +44,7 @@ fn put_line(plane: &mut PlaneWriter, s: PlaneSofar, l: Line)
 }
 
 // A line row more, as long as the last.
-pub fn add_line(plane: &mut PlaneWriter, s: PlaneSofar, l: Line) -> Result<(), Refusal>
+pub(crate) fn add_line(plane: &mut PlaneWriter, s: PlaneSofar, l: Line) -> Result<(), Refusal>
     ensures made { line_made result s plane.new ≡ add_line (line_cell l.output l.annotation l.plain s.doubles.output s.doubles.annotation) (rows_of s plane.old) }
     ensures same { SameSlice plane.old plane.new }
 {

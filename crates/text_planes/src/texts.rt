@@ -74,7 +74,7 @@ fn put_text(
 }
 
 // The texts of rects, one behind the other, and where each stands.
-pub fn gather(
+pub(crate) fn gather(
     text: Layer,
     rects: Rects,
     bytes: &mut [u8],

@@ -92,7 +92,7 @@ pub struct Found {
     pub b: usize,
 }
 
-pub fn first_marked(s: &[u8]) -> Option<Found>
+pub(crate) fn first_marked(s: &[u8]) -> Option<Found>
     ensures { FoundIn s.now result }
 {
     let mut at: usize = 0;

@@ -27,7 +27,7 @@ pub fn measure(s: &[u8], p: Pattern, q: &[u8]) -> usize
 }
 
 // The text with q for every p, into out from index at on; the index behind it.
-pub fn rewrite(s: &[u8], p: Pattern, q: &[u8], out: &mut [u8], at: usize) -> usize
+pub(crate) fn rewrite(s: &[u8], p: Pattern, q: &[u8], out: &mut [u8], at: usize) -> usize
     requires { (0 < length p.text.now) × (at + length (replace_all 0 p.text.now q.now s.now) ≤ length out.old) }
     ensures value { result ≡ at + length (replace_all 0 p.entry.text.now q.now s.now) }
     ensures out_after { out.new ≡ put out.old at (replace_all 0 p.entry.text.now q.now s.now) }

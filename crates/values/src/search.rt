@@ -57,7 +57,7 @@ fn is_new(e: usize, reach: usize, top: usize) -> bool
 }
 
 // The short periods of p, by a search for p in itself after Galil and Seiferas 1983. Each is more than three times the one before.
-pub fn periods_of(p: &[u8]) -> ArrayVec<Stretch, PERIODS>
+pub(crate) fn periods_of(p: &[u8]) -> ArrayVec<Stretch, PERIODS>
     requires { 0 < length p.now }
     ensures { Periods p.now result.items (array_vec_len result) }
 {

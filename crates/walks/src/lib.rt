@@ -145,7 +145,7 @@ fn ahead(d: Direction, spot: Spot) -> usize
 }
 
 // Walks from a place of a layer, over allowed characters to a searched one.
-pub fn go(d: Direction, spot: Spot, c: Characters) -> Result<usize, Refusal>
+pub(crate) fn go(d: Direction, spot: Spot, c: Characters) -> Result<usize, Refusal>
     ensures { (s a : List ℕ) → Sought c s a → result ≡ from_spot (λ p w h x y. go_of d p w h x y s a) spot.entry }
 {
     let w = spot.layer.width;
