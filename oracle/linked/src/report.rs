@@ -22,12 +22,13 @@ use Reach::{No, Open, Yes};
 const NOT_LENT: Reach =
     No("builder SheetEnd.sheet_end, which read_sheet promises: lent_of alone gives 26");
 const NOT_DRAWN: Reach = No(
-    "lent_builder LentEnd.lent_end, which read_lent_plane promises: lent_of and stated_policy give 8 to 26 alone",
+    "builder::lent_builder LentEnd.lent_end, which read_lent_plane promises: lent_of and stated_policy give 8 to 26 alone",
 );
-const NOT_SPLIT: Reach = No("utils Split.split_of, which split_values promises: 1 and 27 alone");
+const NOT_SPLIT: Reach =
+    No("values::utils Split.split_of, which split_values promises: 1 and 27 alone");
 const NO_SPLIT: Reach = No("an answer of the split");
 const TWO_SIZES: Reach = No("clauses OnlyTwoSizes.only_two_sizes: checks 8 and 12 alone");
-const FOUR: Reach = No("lent_builder LentEnd.lent_sizes: four work slices");
+const FOUR: Reach = No("builder::lent_builder LentEnd.lent_sizes: four work slices");
 const SIX: Reach = No("builder SheetEnd.sheet_sizes: six work slices");
 const HAS_ROW: Reach =
     No("policies DrawnNotEmpty.walked_not_empty: the main crossing has a line row");
