@@ -92,7 +92,13 @@ fn lay_many(plane: Plane, x: usize, m: usize, h: usize, valued: bool) -> Result<
 }
 
 // The output clauses.
-pub(crate) fn lay_out(plane: Plane, x: usize, m: usize, h: usize, valued: bool) -> Result<Layout, Refusal>
+pub(crate) fn lay_out(
+    plane: Plane,
+    x: usize,
+    m: usize,
+    h: usize,
+    valued: bool,
+) -> Result<Layout, Refusal>
     requires { x + m ≤ 128 }
     ensures { result ≡ layout_of (plane_of plane.entry) x m h valued }
 {

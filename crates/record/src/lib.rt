@@ -50,7 +50,12 @@ fn put_words(out: &mut [u8], at: usize, ws: &[u32])
 }
 
 // Begins a record of so many slots and bytes of text: its ten words, if the slice is long enough for all of it.
-pub(crate) fn begin_record(out: &mut [u8], h: Head, slots: usize, bytes: usize) -> Result<usize, Refusal>
+pub(crate) fn begin_record(
+    out: &mut [u8],
+    h: Head,
+    slots: usize,
+    bytes: usize,
+) -> Result<usize, Refusal>
     requires { text_offset slots + bytes < 2 ^ 32 }
     ensures value { result ≡ begun_of (length out.old) (text_offset slots + bytes) }
     ensures out_after { out.new ≡ headed out.old (text_offset slots + bytes) ((text_offset slots + bytes) ∷ h.policy ∷ h.orientation ∷ h.inputs ∷ h.outputs ∷ h.annotations ∷ h.rules ∷ slot_offset ∷ slots ∷ text_offset slots ∷ []) }
