@@ -1,4 +1,4 @@
-// The policies that drawings and lent planes state. All of it stands in specs/ and proofs/.
+// The policies that drawings and lent planes state, all in specs/ and proofs/; in the modules, the record of each source.
 #![tactic(auto)]
 
 pub mod drawn_planes;
