@@ -131,13 +131,15 @@ fn carry_lines(grid: &mut [u32], d: Stroke, l: Line, across: usize, m: usize)
     }
 }
 
-// A layer's characters become those of another.
+// A layer's characters become those of another, one by one: as `lists::put_bytes` says.
 fn copy_layer(src: Layer, dst: &mut [u32])
     requires { src.height * src.width ≤ length dst.old }
     ensures { dst.new ≡ take (src.entry.height * src.entry.width) src.entry.codes.now ++ drop (src.entry.height * src.entry.width) dst.old }
 {
     let n = src.height * src.width;
-    dst[..n].copy_from_slice(&src.codes[..n]);
+    for i in 0..n {
+        dst[i] = src.codes[i];
+    }
 }
 
 // GRID of BODY: the lines of the body are carried across it.

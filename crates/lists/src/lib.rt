@@ -15,10 +15,12 @@ pub fn fill<T: Copy>(s: &mut [T], x: T)
 }
 
 // The bytes of a text, from index `at` on.
+// The library's `copy_from_slice` ends in `memmove`, which a caller in C without a C library would have to bring.
 pub fn put_bytes(out: &mut [u8], at: usize, text: &[u8])
     requires { at + length text.now ≤ length out.old }
     ensures { out.new ≡ put out.old at text.now }
 {
-    let end = at + text.len();
-    out[at..end].copy_from_slice(text);
+    for j in 0..text.len() {
+        out[at + j] = text[j];
+    }
 }

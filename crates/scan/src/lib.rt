@@ -16,7 +16,9 @@ ghost use Rattle.scan.specs.Rows.{fill, blank, flat};
 ghost use Rattle.scan.specs.Canvas.{size_of, text_in, blanks_in, scanned_in, Ended, ValidIn};
 
 use crate::sheet_rows::{Extent, Row};
-use model::{Refusal, box_drawing, limits};
+use arrayvec::ArrayVec;
+use model::limits::{CANVAS_COLUMNS, CANVAS_ROWS};
+use model::{Refusal, box_drawing};
 
 // The code points of a row, into out from `base` on.
 fn put_codes(s: &[u8], row: Row, out: &mut [u32], base: usize)
@@ -73,15 +75,16 @@ pub fn scan(s: &[u8], from: usize, text: &mut [u32], body: &mut [u32]) -> Result
     ensures body { body.new ≡ blanks_in (rows_at s.now from) body.old }
 {
     let start = crate::sheet_rows::sheet_start(s, from);
-    let m = crate::sheet_rows::measure(s, start);
-    let rows = m.extent.rows;
-    let columns = m.extent.columns;
-    if limits::CANVAS_ROWS < rows {
+    let mut kept: ArrayVec<Row, CANVAS_ROWS> = ArrayVec::new();
+    let m = crate::sheet_rows::measure(s, start, &mut kept);
+    let rows = m.rows;
+    let columns = m.columns;
+    if CANVAS_ROWS < rows {
         return Err(Refusal::CanvasTooLarge(rows, columns));
     }
-    if limits::CANVAS_COLUMNS < columns {
+    if CANVAS_COLUMNS < columns {
         return Err(Refusal::CanvasTooLarge(rows, columns));
     }
-    write_rows(s, m.kept.as_slice(), columns, text, body);
-    Ok(m.extent)
+    write_rows(s, kept.as_slice(), columns, text, body);
+    Ok(m)
 }

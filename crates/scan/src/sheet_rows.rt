@@ -57,22 +57,16 @@ pub struct Extent {
     pub end: ReadTo,
 }
 
-// The rows of a sheet, as many as a canvas can have, and its extent.
-#[derive(Drop)]
-pub struct SheetRows {
-    pub kept: ArrayVec<Row, CANVAS_ROWS>,
-    pub extent: Extent,
-}
-
-// Measures the sheet whose first line starts at a place, and keeps its rows.
-pub fn measure(s: &[u8], start: ReadTo) -> SheetRows
+// Measures the sheet whose first line starts at a place, and keeps its rows, as many as a canvas can have.
+// They go into a vector of the caller's: one that is answered is moved, over its whole capacity.
+pub fn measure(s: &[u8], start: ReadTo, kept: &mut ArrayVec<Row, CANVAS_ROWS>) -> Extent
     requires { (start.at ≤ length s.now) × (start.at < length s.now → start.valid ≡ start.at) }
-    ensures measured { Measured s.now start.at result.extent.rows result.extent.columns result.extent.end.at }
-    ensures all { result.extent.rows ≤ canvas_rows → array_vec_len result.kept ≡ result.extent.rows }
-    ensures kept { result.extent.rows ≤ canvas_rows → Kept s.now start.at result.kept.items result.extent.rows }
-    ensures valid { SameCheck s.now start.valid result.extent.end.valid }
+    ensures measured { Measured s.now start.at result.rows result.columns result.end.at }
+    ensures all { result.rows ≤ canvas_rows → array_vec_len kept.new ≡ result.rows }
+    ensures kept { result.rows ≤ canvas_rows → Kept s.now start.at kept.new.items result.rows }
+    ensures valid { SameCheck s.now start.valid result.end.valid }
 {
-    let mut kept = ArrayVec::new();
+    kept.clear();
     let mut end = start;
     let mut rows: usize = 0;
     let mut columns: usize = 0;
@@ -84,7 +78,7 @@ pub fn measure(s: &[u8], start: ReadTo) -> SheetRows
         end = l.rest.end;
         if 0 < count {
             keep_row(
-                &mut kept,
+                kept,
                 Row {
                     from: l.from,
                     count,
@@ -93,15 +87,9 @@ pub fn measure(s: &[u8], start: ReadTo) -> SheetRows
             rows += 1;
             columns = columns.max(count);
             if last == box_drawing::LIGHT_UP_AND_LEFT {
-                return SheetRows {
-                    kept,
-                    extent: Extent { rows, columns, end },
-                };
+                return Extent { rows, columns, end };
             }
         }
     }
-    SheetRows {
-        kept,
-        extent: Extent { rows, columns, end },
-    }
+    Extent { rows, columns, end }
 }

@@ -11,7 +11,8 @@ ghost use Rattle.std.specs.Prelude.{◌≡◌, ◌+◌, ◌≤◌, length};
 ghost use Rattle.lists.specs.Put.{put};
 ghost use Rattle.values.specs.Values.{values_of, MeasuredOf};
 
-use crate::search::Pattern;
+use crate::search::{PERIODS, Pattern, Stretch};
+use arrayvec::ArrayVec;
 
 // Rewritten values: so many bytes are the allowed values, and the default stands in the text from one place up to another.
 #[derive(Clone, Copy)]
@@ -27,7 +28,8 @@ pub fn measure_values(text: &[u8]) -> Option<Rewritten>
 {
     let f = crate::emphasis::first_marked(text)?;
     let part = &text[f.from..f.to];
-    let periods = crate::search::periods_of(part);
+    let mut periods: ArrayVec<Stretch, PERIODS> = ArrayVec::new();
+    crate::search::periods_of(part, &mut periods);
     let pattern = Pattern {
         text: part,
         periods: periods.as_slice(),
@@ -48,7 +50,8 @@ pub fn put_values(text: &[u8], out: &mut [u8], at: usize) -> usize
 {
     if let Some(f) = crate::emphasis::first_marked(text) {
         let part = &text[f.from..f.to];
-        let periods = crate::search::periods_of(part);
+        let mut periods: ArrayVec<Stretch, PERIODS> = ArrayVec::new();
+        crate::search::periods_of(part, &mut periods);
         let pattern = Pattern {
             text: part,
             periods: periods.as_slice(),

@@ -57,11 +57,12 @@ fn is_new(e: usize, reach: usize, top: usize) -> bool
 }
 
 // The short periods of p, by a search for p in itself after Galil and Seiferas 1983. Each is more than three times the one before.
-pub(crate) fn periods_of(p: &[u8]) -> ArrayVec<Stretch, PERIODS>
+// They go into a vector of the caller's: one that is answered is moved, over its whole capacity.
+pub(crate) fn periods_of(p: &[u8], t: &mut ArrayVec<Stretch, PERIODS>)
     requires { 0 < length p.now }
-    ensures { Periods p.now result.items (array_vec_len result) }
+    ensures { Periods p.now t.new.items (array_vec_len t.new) }
 {
-    let mut t = ArrayVec::new();
+    t.clear();
     let mut e: usize = 1;
     let mut reach: usize = 1;
     let mut top: usize = 0;
@@ -81,7 +82,6 @@ pub(crate) fn periods_of(p: &[u8]) -> ArrayVec<Stretch, PERIODS>
     if is_new(e, reach, top) {
         t.push(Stretch { period: e, reach });
     }
-    t
 }
 
 // A text to be searched for, and its short periods. (A period may be covered by two entries: the fact has more than one proof, hence `∥ ∥₁`.)

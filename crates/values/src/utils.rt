@@ -5,7 +5,8 @@ ghost use Rattle.values.specs.emphasis.Emphasis.{choice_of};
 ghost use Rattle.values.specs.utils.Split.{split_by, split_of, scratch_by, scratch_of, answered, Places, allowed_in};
 
 use crate::Rewritten;
-use crate::search::Pattern;
+use crate::search::{PERIODS, Pattern, Stretch};
+use arrayvec::ArrayVec;
 use model::Refusal;
 
 // The value split of a text, with the allowed values in scratch where they are rewritten. None is rewritten where the text itself is the
@@ -21,7 +22,8 @@ fn split_text(text: &[u8], scratch: &mut [u8]) -> Result<Option<Rewritten>, Refu
     };
     let part = &text[f.from..f.to];
     let bare = &text[f.a..f.b];
-    let periods = crate::search::periods_of(part);
+    let mut periods: ArrayVec<Stretch, PERIODS> = ArrayVec::new();
+    crate::search::periods_of(part, &mut periods);
     let pattern = Pattern {
         text: part,
         periods: periods.as_slice(),

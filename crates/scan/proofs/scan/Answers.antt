@@ -18,14 +18,14 @@ pub write_rows-requires : goal.write_rows-requires
 write_rows-requires c =
     let a = c.args in
     let m = c.measure-m.ensures in
-    let h : c.measure-m.result.extent.rows ≤ canvas_rows = omega arith in
+    let h : c.measure-m.result.rows ≤ canvas_rows = omega arith in
     rw (c.as_slice.ensures.value, m.all h) (scan_room c.sheet_start-start.ensures.start m.measured a.text.now a.body.now h (omega arith) (m.kept h) c.requires.1 c.requires.2)
 
 pub returns : goal.returns
 returns c =
     let a = c.args in
     let m = c.measure-m.ensures in
-    let h : c.measure-m.result.extent.rows ≤ canvas_rows = omega arith in
+    let h : c.measure-m.result.rows ≤ canvas_rows = omega arith in
     let o = rw (c.as_slice.ensures.value, m.all h) at c.write_rows.ensures.text in
     let p = rw (c.as_slice.ensures.value, m.all h) at c.write_rows.ensures.body in
     let w = scan_canvas c.sheet_start-start.ensures.start m.measured a.text.now a.body.now h (omega arith) (m.kept h) _ (c.sheet_start-start.ensures.valid.same ∙ m.valid) (o, p) in

@@ -6,7 +6,7 @@ use Rattle.scan.proofs.sheet_rows.measure.Goals as goal
 
 pub loop-end-init : goal.loop-end-init
 loop-end-init c =
-    (measuring_start _ _ c.requires.0, (rw c.new-kept.ensures (keeping_start _ _), record { same = refl; level = c.requires.1 }))
+    (measuring_start _ _ c.requires.0, (rw c.clear.ensures (keeping_start _ _), record { same = refl; level = c.requires.1 }))
 
 pub returns-then-last-eq-LIGHT_UP_AND_LEFT : goal.returns-then-last-eq-LIGHT_UP_AND_LEFT
 returns-then-last-eq-LIGHT_UP_AND_LEFT c =

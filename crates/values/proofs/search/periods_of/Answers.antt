@@ -11,7 +11,7 @@ use Rattle.values.proofs.search.periods_of.Goals as goal
 use Rattle.values.proofs.search.periods_of.Goals.{After-shift_after-s}
 
 pub loop-reach-init : goal.loop-reach-init
-loop-reach-init c = rw (ap (λ (l : List Stretch). length l) c.new-t.ensures) (building_start c.requires c.new-t.ensures)
+loop-reach-init c = rw (ap (λ (l : List Stretch). length l) c.clear.ensures) (building_start c.requires c.clear.ensures)
 
 pub overflow_sub-reach : goal.overflow_sub-reach
 overflow_sub-reach c = omega (arith, c.loop-reach.invariant.apart)
