@@ -24,10 +24,14 @@ pub fn put_lent<const N: usize>(out: &mut ArrayVec<u8, N>, asked: Asked, l: List
     requires { array_vec_len out.old + line_bytes ≤ N }
     ensures { Written out.old.items out.new.items (lines_by asked (lent_of l.entry)) line_bytes }
 {
-    let rows: ArrayVec<u32, ROW_MOST> = crate::lent_lists::widen(l.rows);
-    let regions: ArrayVec<u32, REGION_MOST> = crate::lent_lists::widen(l.regions);
-    let offsets: ArrayVec<u32, PART_MOST> = crate::lent_lists::widen(l.offsets);
-    let sizes: ArrayVec<u32, PART_MOST> = crate::lent_lists::widen(l.sizes);
+    let mut rows: ArrayVec<u32, ROW_MOST> = ArrayVec::new();
+    let mut regions: ArrayVec<u32, REGION_MOST> = ArrayVec::new();
+    let mut offsets: ArrayVec<u32, PART_MOST> = ArrayVec::new();
+    let mut sizes: ArrayVec<u32, PART_MOST> = ArrayVec::new();
+    crate::lent_lists::widen(l.rows, &mut rows);
+    crate::lent_lists::widen(l.regions, &mut regions);
+    crate::lent_lists::widen(l.offsets, &mut offsets);
+    crate::lent_lists::widen(l.sizes, &mut sizes);
     let plane = Lent {
         rows: rows.as_slice(),
         kinds: l.kinds,

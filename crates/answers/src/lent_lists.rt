@@ -1,5 +1,6 @@
 // The lists of a lent plane in a text, and their bytes as wider numbers.
-ghost use Rattle.std.specs.Prelude.{◌≡◌, ◌≤◌, length, IfSome};
+ghost use Rattle.std.specs.Prelude.{◌≡◌, ◌+◌, ◌++◌, ◌≤◌, length, IfSome};
+ghost use Rattle.arrayvec.specs.ArrayVec.{array_vec_len};
 ghost use Rattle.std.specs.Option.{option_map};
 ghost use Rattle.answers.specs.lent_lists.LentText.{counted, lent_in};
 ghost use Rattle.answers.specs.lent_lists.Lists.{lent_of};
@@ -61,14 +62,12 @@ pub fn lists_in(s: &[u8]) -> Option<Lists<'_>>
     })
 }
 
-// The bytes of a list, as wider numbers.
-pub(crate) fn widen<const N: usize>(list: &[u8]) -> ArrayVec<u32, N>
-    requires { length list.now ≤ N }
-    ensures { result.items ≡ list.now }
+// The bytes of a list, as wider numbers, behind what the vector holds: one that is answered would be moved over its whole capacity.
+pub(crate) fn widen<const N: usize>(list: &[u8], wide: &mut ArrayVec<u32, N>)
+    requires { array_vec_len wide.old + length list.now ≤ N }
+    ensures { wide.new.items ≡ wide.old.items ++ list.now }
 {
-    let mut wide = ArrayVec::new();
     for &b in list {
         wide.push(u32::from(b));
     }
-    wide
 }

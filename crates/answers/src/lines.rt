@@ -1,7 +1,7 @@
 // A line of input: the words of a line, and the text that stands behind a line's kind.
 ghost use Rattle.std.specs.Prelude.{◌≡◌, ◌≤◌, length};
 ghost use Rattle.plane.specs.numerals.RuleNumbers.{number_of};
-ghost use Rattle.answers.specs.lines.Texts.{FirstAt, at_most, bytes_in, text_of, items_of};
+ghost use Rattle.answers.specs.lines.Texts.{FirstAt, at_most, bytes_in, text_of, read_as};
 
 use arrayvec::ArrayVec;
 
@@ -33,12 +33,12 @@ fn small_number(word: &[u8], most: usize) -> Option<usize>
     None
 }
 
-// So many bytes, each behind a blank.
-fn read_bytes<const N: usize>(s: &[u8], count: usize) -> Option<ArrayVec<u8, N>>
+// So many bytes, each behind a blank, in place of what the vector holds.
+fn read_bytes<const N: usize>(s: &[u8], count: usize, text: &mut ArrayVec<u8, N>) -> Option<()>
     requires { count ≤ N }
-    ensures { bytes_in count s.now ≡ items_of result }
+    ensures { bytes_in count s.now ≡ read_as result text.new.items }
 {
-    let mut text = ArrayVec::new();
+    text.clear();
     let mut at = 0;
     for _ in 0..count {
         if s.len() <= at {
@@ -53,14 +53,15 @@ fn read_bytes<const N: usize>(s: &[u8], count: usize) -> Option<ArrayVec<u8, N>>
     if at < s.len() {
         return None;
     }
-    Some(text)
+    Some(())
 }
 
-// The text behind a kind.
-pub fn read_text<const N: usize>(line: &[u8]) -> Option<ArrayVec<u8, N>>
-    ensures { text_of N line.now ≡ items_of result }
+// The text behind a kind, into a vector that serves line after line: one that is answered would be made and moved anew for each,
+// over its whole capacity.
+pub fn read_text<const N: usize>(line: &[u8], text: &mut ArrayVec<u8, N>) -> Option<()>
+    ensures { text_of N line.now ≡ read_as result text.new.items }
 {
     let end = find(line, 0, 0x20);
     let count = small_number(&line[0..end], N)?;
-    read_bytes(&line[end..], count)
+    read_bytes(&line[end..], count, text)
 }

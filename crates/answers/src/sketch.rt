@@ -22,10 +22,13 @@ fn put_code<const N: usize>(out: &mut ArrayVec<u8, N>, c: u32)
     requires { array_vec_len out.old + 4 ≤ N }
     ensures { Written out.old.items out.new.items (encode c) 4 }
 {
-    // A slice and a count: `encoding` writes at a place of a slice.
+    // A slice and a count: `encoding` writes at a place of a slice. Pushed one by one: so few bytes are not worth a call that copies.
     let mut code = [0u8; 4];
     let n = characters::encoding::put_code(&mut code, 0, c);
-    print::put_word(out, &code[..n]);
+    let bytes = &code[..n];
+    for &b in bytes {
+        out.push(b);
+    }
 }
 
 // Row y of a layer, and a line feed.

@@ -46,14 +46,18 @@ fn kind_of(word: &[u8]) -> Option<Kind>
 }
 
 // The answer to a text: `kind` is what the line asks for, and each has its own step here.
-fn answer_text<const N: usize>(kind: Kind, text: &[u8], out: &mut ArrayVec<u8, N>) -> Option<()>
+fn answer_text<const N: usize>(
+    kind: Kind,
+    text: &[u8],
+    scratch: &mut [u8; TEXT_BYTES],
+    out: &mut ArrayVec<u8, N>,
+) -> Option<()>
     requires { (array_vec_len out.old + line_bytes ≤ N) × (length text.now ≤ text_bytes) }
     ensures { AnsweredIn result (text_answer kind text_bytes text.now) out.old.items out.new.items }
 {
     match kind {
         Kind::Split => {
-            let mut scratch = [0u8; TEXT_BYTES];
-            answers::put_split_line(out, text, &mut scratch);
+            answers::put_split_line(out, text, scratch);
             Some(())
         }
         Kind::Drawing => {
@@ -78,16 +82,27 @@ fn answer_text<const N: usize>(kind: Kind, text: &[u8], out: &mut ArrayVec<u8, N
 }
 
 // The answer to what stands behind a kind.
-fn answer_by<const N: usize>(kind: Kind, rest: &[u8], out: &mut ArrayVec<u8, N>) -> Option<()>
+fn answer_by<const N: usize>(
+    kind: Kind,
+    rest: &[u8],
+    text: &mut ArrayVec<u8, TEXT_BYTES>,
+    scratch: &mut [u8; TEXT_BYTES],
+    out: &mut ArrayVec<u8, N>,
+) -> Option<()>
     requires { array_vec_len out.old + line_bytes ≤ N }
     ensures { AnsweredIn result (answer_by kind text_bytes rest.now) out.old.items out.new.items }
 {
-    let text: ArrayVec<u8, TEXT_BYTES> = answers::lines::read_text(rest)?;
-    answer_text(kind, text.as_slice(), out)
+    answers::lines::read_text(rest, text)?;
+    answer_text(kind, text.as_slice(), scratch, out)
 }
 
 // The answer to a line.
-fn answer_line<const N: usize>(line: &[u8], out: &mut ArrayVec<u8, N>) -> Option<()>
+fn answer_line<const N: usize>(
+    line: &[u8],
+    text: &mut ArrayVec<u8, TEXT_BYTES>,
+    scratch: &mut [u8; TEXT_BYTES],
+    out: &mut ArrayVec<u8, N>,
+) -> Option<()>
     requires { array_vec_len out.old + line_bytes ≤ N }
     ensures { AnsweredIn result (answer_of text_bytes line.now) out.old.items out.new.items }
 {
@@ -96,7 +111,7 @@ fn answer_line<const N: usize>(line: &[u8], out: &mut ArrayVec<u8, N>) -> Option
         return None;
     }
     let kind = kind_of(&line[0..end])?;
-    answer_by(kind, &line[end + 1..], out)
+    answer_by(kind, &line[end + 1..], text, scratch, out)
 }
 
 // How far the lines of the input are answered, and whether no line was malformed.
@@ -108,7 +123,12 @@ struct Progress {
 }
 
 // The answers to the whole lines of the input, up to one that is malformed, or as many as there is room for.
-fn answer_lines<const N: usize>(input: &[u8], out: &mut ArrayVec<u8, N>) -> Progress
+fn answer_lines<const N: usize>(
+    input: &[u8],
+    text: &mut ArrayVec<u8, TEXT_BYTES>,
+    scratch: &mut [u8; TEXT_BYTES],
+    out: &mut ArrayVec<u8, N>,
+) -> Progress
     ensures replayed { Replayed text_bytes (take result.at input.now) out.new.items }
     ensures result_in_bounds { result.at ≤ length input.now }
     ensures stopped { Stopped result.is_good text_bytes input.now result.at N out.new.items }
@@ -124,7 +144,7 @@ fn answer_lines<const N: usize>(input: &[u8], out: &mut ArrayVec<u8, N>) -> Prog
         if out.remaining_capacity() < LINE_BYTES {
             return Progress { at, is_good: true };
         }
-        match answer_line(&input[at..end], out) {
+        match answer_line(&input[at..end], text, scratch, out) {
             Some(()) => at = end + 1,
             None => return Progress { at, is_good: false },
         }
@@ -154,6 +174,8 @@ fn replay_some<R: Read, W: Write, const N: usize>(
     reader: &mut R,
     writer: &mut W,
     input: &mut [u8],
+    text: &mut ArrayVec<u8, TEXT_BYTES>,
+    scratch: &mut [u8; TEXT_BYTES],
     out: &mut ArrayVec<u8, N>,
     count: usize,
 ) -> Waiting
@@ -162,7 +184,7 @@ fn replay_some<R: Read, W: Write, const N: usize>(
 {
     let got = read_more(reader, input, count);
     let end = count + got;
-    let p = answer_lines(&input[0..end], out);
+    let p = answer_lines(&input[0..end], text, scratch, out);
     let is_written = writer.write_all(out.as_slice()).is_ok();
     input.copy_within(p.at..end, 0);
     Waiting {
@@ -187,11 +209,13 @@ fn replay<R: Read, W: Write, const N: usize>(
     reader: &mut R,
     writer: &mut W,
     input: &mut [u8],
+    text: &mut ArrayVec<u8, TEXT_BYTES>,
+    scratch: &mut [u8; TEXT_BYTES],
     out: &mut ArrayVec<u8, N>,
 ) -> io::Result<()> {
     let mut count: usize = 0;
     for _ in 0..u64::MAX {
-        let w = replay_some(reader, writer, input, out, count);
+        let w = replay_some(reader, writer, input, text, scratch, out, count);
         if !w.is_open {
             return end_with(writer, w.count);
         }
@@ -208,8 +232,18 @@ fn end_with<W: Write>(writer: &mut W, count: usize) -> io::Result<()> {
     Ok(())
 }
 
+// The text of a line and the scratch slice of a split are made once and lent: each line writes only what it needs of them.
 fn main(rt: HostRuntime) -> io::Result<()> {
     let mut input = [0u8; 262144];
+    let mut text: ArrayVec<u8, TEXT_BYTES> = ArrayVec::new();
+    let mut scratch = [0u8; TEXT_BYTES];
     let mut out: ArrayVec<u8, 655360> = ArrayVec::new();
-    replay(&mut rt.stdin(), &mut rt.stdout(), &mut input, &mut out)
+    replay(
+        &mut rt.stdin(),
+        &mut rt.stdout(),
+        &mut input,
+        &mut text,
+        &mut scratch,
+        &mut out,
+    )
 }

@@ -1,6 +1,5 @@
 -- Texts as the judge reads them behind a line's kind: the count of bytes and the bytes, one blank between two numbers.
 use Rattle.std.specs.Prelude.{List, [], ◌∷◌, ◌++◌, ◌≡◌, ℕ, zero, suc, ◌-◌, ◌≤◌, ◌<◌, eqb, leb, length, get_or, take, drop, Option, None, Some}
-use Rattle.arrayvec.specs.ArrayVec.{ArrayVec}
 use Rattle.lists.specs.Choose.{choose}
 use Rattle.plane.specs.numerals.RuleNumbers.{number_of}
 use Rattle.print.specs.Lines.{blank}
@@ -50,7 +49,7 @@ text_of most s =
     on_number (at_most most (number_of (before blank s)))
     (λ n. bytes_in n (drop (length (before blank s)) s))
 
--- the bytes that a vector holds, if there is one
-abbrev pub items_of : Option (ArrayVec ℕ) → Option (List ℕ)
-items_of None = None
-items_of (Some v) = Some v.items
+-- the text that is read, if one is
+abbrev pub read_as : Option (Unit {0}) → List ℕ → Option (List ℕ)
+read_as None x = None
+read_as (Some tt) x = Some x

@@ -10,7 +10,7 @@ answer_text-requires g c = omega (arith, c.requires, c.as_slice.ensures.fits)
 
 pub returns : goal.returns
 returns g c =
-    answered_as c.answer_text.result _ _ c.answer_text.ensures (by_text c.args.kind c.args.rest.now (c.in_ok-text.ensures ∙ ap Some (sym c.as_slice.ensures.value)))
+    answered_as c.answer_text.result _ _ c.answer_text.ensures (by_text c.args.kind c.args.rest.now (c.in_ok-read_text.ensures ∙ ap Some (sym c.as_slice.ensures.value)))
 
-pub returns-in_err-text : goal.returns-in_err-text
-returns-in_err-text g c = rw c.from_residual.ensures (no_text c.args.kind c.args.rest.now c.in_err-text.ensures, refl)
+pub returns-in_err-read_text : goal.returns-in_err-read_text
+returns-in_err-read_text g c = rw c.from_residual.ensures (no_text c.args.kind c.args.rest.now c.in_err-read_text.ensures, refl)

@@ -8,16 +8,13 @@ use Rattle.replay.proofs.Replaying.{by_kind}
 use native.Mathlib.Omega.{arith}
 use Rattle.replay.proofs.answer_text.Goals as goal
 
-pub slice_bounds-put_split_line-end : goal.slice_bounds-put_split_line-end
-slice_bounds-put_split_line-end g c = sym (length-replicate {A = ℕ} 61440 0)
-
 pub put_split_line-requires : goal.put_split_line-requires
-put_split_line-requires g c = (search arith, (c.requires.0, c.requires.1, omega (arith, length-replicate {A = ℕ} 61440 0)))
+put_split_line-requires g c = (search arith, (c.requires.0, c.requires.1, omega arith))
 
 pub returns-in-Split : goal.returns-in-Split
 returns-in-Split g c =
     let t = c.args.text.now in
-    (_, (by_kind t c.in-Split.is, written_as c.put_split_line.ensures (ap (λ (m : ℕ). split_line m t) (length-replicate {A = ℕ} 61440 0))))
+    (_, (by_kind t c.in-Split.is, written_as c.put_split_line.ensures (ap (λ (m : ℕ). split_line m t) c.told-scratch)))
 
 pub returns-in-Drawing : goal.returns-in-Drawing
 returns-in-Drawing g c = (_, (by_kind c.args.text.now c.in-Drawing.is, c.put_drawing.ensures))

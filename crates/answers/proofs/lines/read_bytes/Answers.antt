@@ -4,7 +4,7 @@ use native.Mathlib.Omega.{arith}
 use Rattle.answers.proofs.lines.read_bytes.Goals as goal
 
 pub loop-init : goal.loop-init
-loop-init g c = reading_start c.new-text.ensures
+loop-init g c = reading_start c.clear.ensures
 
 pub returns-then-s-at : goal.returns-then-s-at
 returns-then-s-at g c = reading_cut c.loop.invariant c.loop-test.true c.if-s-at.true

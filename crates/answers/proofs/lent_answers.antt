@@ -1,0 +1,2 @@
+-- Laws of what answers the lists of a lent plane.
+pub mod ListsLaws
