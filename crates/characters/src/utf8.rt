@@ -13,7 +13,9 @@ pub enum Decoded {
     End,
 }
 
-// Bytes that follow: one in lo to hi, and `left` more.
+// Bytes that follow: one in lo to hi, and `left` more. Inlined, so that its turns are compiled with their number; a call of itself
+// would not be.
+#[inline(always)]
 fn more(s: &[u8], at: usize, lo: u8, hi: u8, code: u32, n: usize, left: usize) -> Decoded
     requires { (128 ≤ lo) × (hi ≤ 191) × CodeFits code left × (left ≤ 2) × (n + left ≤ 3) }
     ensures { result ≡ more ((lo – hi) ∷ replicate left tail) code n (drop at s.now) }
@@ -28,11 +30,22 @@ fn more(s: &[u8], at: usize, lo: u8, hi: u8, code: u32, n: usize, left: usize) -
     if hi < b {
         return Decoded::IllFormed;
     }
-    let read = code * 64 + ((b - 128) as u32);
-    if left == 0 {
-        return Decoded::Char(read, n + 1);
+    let mut read = code * 64 + ((b - 128) as u32);
+    let p = at + 1;
+    for k in 0..left {
+        if s.len() <= p + k {
+            return Decoded::IllFormed;
+        }
+        let c = s[p + k];
+        if c < 0x80 {
+            return Decoded::IllFormed;
+        }
+        if 0xBF < c {
+            return Decoded::IllFormed;
+        }
+        read = read * 64 + ((c - 128) as u32);
     }
-    more(s, at + 1, 128, 191, read, n + 1, left - 1)
+    Decoded::Char(read, n + 1 + left)
 }
 
 // What stands at a place of the bytes, by all rows of the table.
